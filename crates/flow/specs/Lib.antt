@@ -1,0 +1,5 @@
+pub mod Limits
+pub mod Refusals
+pub mod Answers
+pub mod Keys
+pub mod Meanings
