@@ -1,3 +1,4 @@
+pub mod Codes
 pub mod Limits
 pub mod Refusals
 pub mod Answers

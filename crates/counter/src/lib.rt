@@ -1,0 +1,4 @@
+// Two frame counters.
+pub mod entry;
+mod line;
+pub mod semi;
