@@ -67,7 +67,12 @@ pub impl FrameCounter for SemiOrdered as SemiCounter {
         self.len = 0;
     }
 
-    fn add(&mut self, code: Code, weight: u32) -> Result<usize, Refusal> {
+    fn add(&mut self, code: Code, weight: u32) -> Result<usize, Refusal>
+        ensures answer { λ r. ⌜ told r ≡ addAnswer semiMeaning (semiMeaning .model (now (self .entry))) code weight ⌝ }
+        ensures state { λ _. ⌜ semiMeaning .model (now (self .exit)) ≡ addLeaves semiMeaning (semiMeaning .model (now (self .entry))) code weight ⌝ }
+        ensures unchanged { λ r. ⌜ Unchanged r (now (self .entry)) (now (self .exit)) ⌝ }
+        ensures few_passes { λ r. ⌜ made r (λ p. p ≤ (weight - 1) / semiMeaning .model (now (self .entry)) .step) ⌝ }
+    {
         if weight < 1 || weight > MOST_WEIGHT {
             return Err(Refusal::WeightOutOfRange);
         }

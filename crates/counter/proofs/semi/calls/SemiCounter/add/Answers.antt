@@ -1,6 +1,9 @@
 use native.Mathlib.Omega.{arith}
-use lib.ListN.{length}
+use lib.ListN.{length, take}
 use Rattle.counter.proofs.Memory.{lawful, still, still-few, still-order, total-fits}
+use Rattle.counter.proofs.Passes.{passes-short}
+use Rattle.counter.specs.Line.{passes}
+use borrow.Author.Needs.{needs}
 use Rattle.counter.proofs.semi.calls.SemiCounter.add.Needs as need
 
 pub count-len-requires : need.count-len-requires
@@ -28,3 +31,10 @@ ghost-self c =
         (still-few (m .places) (m .step) (m .packets) (m .volume) (m .len) w (m .entries) k len′ xs′ (m .«places_in» .0) (m .«step_in» .0) l line long,
           (still-order (m .places) (m .step) (m .packets) (m .volume) (m .len) w (m .entries) k len′ xs′ (m .«places_in» .0) (m .«step_in» .0) l line long,
             (still (m .places) (m .step) (m .packets) (m .volume) (m .len) w (m .entries) k len′ xs′ (m .«places_in» .0) (m .«step_in» .0) l line long .sum, tt))))))
+
+pub returns : need.returns
+returns c =
+    let m = c .args .self .now in
+    let l = lawful m in
+    let short = passes-short (m .places) (m .step) (c .args .weight) (take (m .len) (m .entries)) (c .args .code) (m .«step_in» .0) (omega (arith, c .if-weight-lt1 .left)) (l .rising) (l .small) in
+    record { answer = search needs; state = search needs; unchanged = tt; few-passes = omega (arith, c .count-len .ensures .passes, short) }
