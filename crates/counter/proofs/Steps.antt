@@ -1,4 +1,4 @@
--- The steps of an add, by the place of the code's entry.
+-- The steps of an add, by the place of the entry of the code.
 use mathlib.Core.Path.{_∙_, _≡_, ap, refl, sym}
 use mathlib.Core.Bool.{false, true}
 use mathlib.Core.Logic.{inl, inr}
@@ -13,12 +13,16 @@ use Rattle.counter.proofs.Entries.{entryOf-absent, total-without}
 use Rattle.counter.proofs.Estimates.{estimate-full, estimate-room}
 use Rattle.counter.specs.Line.{AtLeast, CodesDiffer, Lawful, Rising, Small, added, between, blank, entering, entryOf, firstGroup, holds, others, passes, placed, raised, replaced, rest, start, total, value, without}
 use Rattle.counter.specs.declared.entry.Entry.{Entry}
-use Rattle.flow.proofs.Codes.{same-refl, same-sym}
+use Rattle.flow.proofs.Codes.{same-refl, same-sym, same-true}
 use Rattle.flow.specs.Codes.{same}
 use Rattle.flow.specs.declared.code.Code.{Code}
 use Rattle.std.proofs.shelf.Lists.{length-take-le, take-at, take-take}
 use Rattle.std.proofs.shelf.Tests.{and-from, and-left, and-right, cases-bool, cases-lt, cond-false, cond-true, eq-eqb, le-leb, le-ltb, lt-ltb, ne-eqb}
 use Rattle.std.proofs.shelf.Ways.{tells}
+use Rattle.std.specs.Options.{isSome}
+use Rattle.std.specs.Options.{Cases as BySome}
+use Rattle.std.specs.declared.option.Option.{Option}
+use Rattle.std.specs.declared.option.Option.the-variants.{None, Some}
 
 -- the four steps as equations
 module _ (n s : ℕ) (line : List Entry) (k : Code) (w : ℕ) where
@@ -278,3 +282,9 @@ value-start n s t v line k some step l =
       | inr q ↦ omega (arith, estimate-full n s line k h q, rest-lawful s line (omega arith) .1)
       ]
     ]
+
+-- a search tells whether the line holds the code
+pub holds-found : (k : Code) (xs : List Entry) (o : Option ℕ) →
+    BySome o (holds k xs ≡ false) (λ i. (i < length xs) × (holds k (take i xs) ≡ false) × ((d : Entry) → same k (getD xs i d .code) ≡ true)) → isSome o ≡ holds k xs
+holds-found k xs None h = sym h
+holds-found k xs (Some i) h = sym (ap (λ (j : Code). holds j xs) (same-true _ _ (h .2 blank)) ∙ holds-at xs i (h .0))

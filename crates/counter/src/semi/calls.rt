@@ -1,6 +1,7 @@
 // The calls of a semi-ordered counter.
 use crate::entry::Entry;
 use crate::line::count;
+use crate::line::find;
 use crate::line::started;
 use crate::semi::SemiOrdered;
 use flow::code::Code;
@@ -15,7 +16,7 @@ ghost use Prim.Native.Nat.{_-_, _/_, _≤_};
 ghost use Rattle.std.specs.Vec.{made};
 ghost use Rattle.flow.specs.Answers.{told, Unchanged};
 ghost use Rattle.flow.specs.Meanings.{addAnswer, addLeaves};
-ghost use Rattle.counter.specs.Line.{start};
+ghost use Rattle.counter.specs.Line.{holds, start};
 ghost use Rattle.counter.specs.Semi.{semiMeaning, semiOpened};
 
 const BLANK: Entry = Entry { code: Code { high: 0, low: 0 }, group: 0, remainder: 0 };
@@ -33,6 +34,13 @@ impl SemiOrdered {
         ensures { λ r. ⌜ now r ≡ semiMeaning .model (now (self .entry)) .line ⌝ }
     {
         &self.entries[0..self.len]
+    }
+
+    // Whether the line has an entry of the code.
+    pub fn holds(&self, code: Code) -> bool
+        ensures { λ r. ⌜ r ≡ holds code (semiMeaning .model (now (self .entry)) .line) ⌝ }
+    {
+        find(&self.entries[0..self.len], code).is_some()
     }
 
     // What the code counts from: its own entry, or the one with which it would enter.
