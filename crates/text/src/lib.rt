@@ -73,8 +73,8 @@ pub fn next_word(line: &[u8]) -> (&[u8], &[u8])
 }
 
 // The number that a word of digits writes, or the greatest of its type where it is larger. None for any other word.
-pub fn number(word: &[u8]) -> Option<u32>
-    ensures { λ r. ⌜ BySome r (Numeral 10 (now (word .entry)) → ⊥) (λ n. Numeral 10 (now (word .entry)) × (n ≡ min (value 10 (now (word .entry))) (2 ^ 32 - 1))) ⌝ }
+pub fn number(word: &[u8]) -> Option<u64>
+    ensures { λ r. ⌜ BySome r (Numeral 10 (now (word .entry)) → ⊥) (λ n. Numeral 10 (now (word .entry)) × (n ≡ min (value 10 (now (word .entry))) (2 ^ 64 - 1))) ⌝ }
 {
     if word.is_empty() {
         return None;
@@ -84,7 +84,7 @@ pub fn number(word: &[u8]) -> Option<u32>
         if *b < b'0' || *b > b'9' {
             return None;
         }
-        n = (n * 10 + u64::from(*b - b'0')).min(u64::from(u32::MAX));
+        n = n.saturating_mul(10).saturating_add(u64::from(*b - b'0'));
     }
-    Some(n as u32)
+    Some(n)
 }

@@ -13,7 +13,7 @@ use Rattle.std.proofs.shelf.Text.{digitValue-digit}
 use Rattle.text.proofs.number.Needs as need
 
 -- a number that was cut at m is cut there again
-capped : (n v d m : ℕ) → n ≡ min v m → min (n * 10 + d) m ≡ min (v * 10 + d) m
+capped : (n v d m : ℕ) → n ≡ min v m → min (min (n * 10) m + d) m ≡ min (v * 10 + d) m
 capped n v d m e = omega arith
 
 pub returns-then-b-lt48 : need.returns-then-b-lt48
@@ -25,11 +25,11 @@ loop-b-again c =
     let bs = c .args .word .now in
     let d : digitValue (getD bs i 0) + 48 ≡ getD bs i 0 = digitValue-digit (getD bs i 0) (omega arith, omega arith) in
     let v = value-more 10 bs i (c .loop-b-test .taken) in
-    let k = capped (c .loop-b .n) (value 10 (take i bs)) (digitValue (getD bs i 0)) (2 ^ 32 - 1) (c .loop-b .inv .1) in
+    let k = capped (c .loop-b .n) (value 10 (take i bs)) (digitValue (getD bs i 0)) (2 ^ 64 - 1) (c .loop-b .inv .1) in
     (digits-more 10 bs i (c .loop-b-test .taken) (c .loop-b .inv .0) (omega arith), omega arith)
 
 pub returns : need.returns
 returns c =
     let e = take-all (c .loop-b .b-index) (c .args .word .now) (c .loop-b-test .left) in
     let some : 0 < length (c .args .word .now) = omega (arith, eqb-false _ _ (sym (c .if-is-empty .ensures tt))) in
-    subst (λ (l : List ℕ). ((0 < length l) × Digits 10 l) × (c .loop-b .n ≡ min (value 10 l) (2 ^ 32 - 1))) e ((rw e some, c .loop-b .inv .0), c .loop-b .inv .1)
+    subst (λ (l : List ℕ). ((0 < length l) × Digits 10 l) × (c .loop-b .n ≡ min (value 10 l) (2 ^ 64 - 1))) e ((rw e some, c .loop-b .inv .0), c .loop-b .inv .1)
