@@ -7,7 +7,7 @@ use native.Mathlib.Omega.{arith}
 use lib.ListN.{length, getD, take, drop, length-drop}
 use Rattle.std.proofs.shelf.Lists.{at-drop-more, at-drop-all, drop-all, drop-drop, nil-from-length, take-rest}
 use Rattle.std.proofs.shelf.Tests.{cond-true, cond-false}
-use Rattle.text.specs.Reading.{front}
+use Rattle.text.specs.Reading.{front, inLine, afterLine}
 
 pub front-le : (p : ℕ → Bool) (bs : List ℕ) → front p bs ≤ length bs
 front-le p [] = omega arith
@@ -36,3 +36,7 @@ after-none bs rest n e l =
 
 pub after-one : (bs rest : List ℕ) (n : ℕ) → rest ≡ drop n bs → take (length rest - 1) (drop 1 rest) ≡ drop (n + 1) bs
 after-one bs rest n e = take-rest rest 1 ∙ ap (drop 1) e ∙ drop-drop 1 n bs
+
+-- what follows a line is shorter
+pub after-shorter : (bs : List ℕ) → 0 < length bs → length (afterLine bs) < length bs
+after-shorter bs l = omega (arith, length-drop (front inLine bs + 1) bs)

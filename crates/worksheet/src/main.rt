@@ -1,26 +1,25 @@
 // Prints a worked sheet of the packets on standard input.
 mod division;
-mod heading;
+mod line;
 mod semi;
 mod sheet;
-mod text;
 mod totals;
 
-use crate::heading::Heading;
-use crate::heading::Kind;
-use crate::text::next_line;
+use crate::line::Heading;
+use crate::line::Kind;
+use crate::semi::SemiWorked;
 use counter::semi::SemiOrdered;
 use std::error::AnyError;
 use std::io;
 use std::io::Read;
-use crate::semi::SemiWorked;
+use text::next_line;
 
-// Reads the heading and works the sheet for its kind of counter.
+// Reads the heading, and works the sheet for its kind of counter.
 fn work(rt: &LibcRuntime, input: &[u8]) -> io::Result<()> {
     let (first, rest) = next_line(input);
-    let heading = Heading::read(first);
-    match heading.kind {
-        Kind::SemiOrdered => sheet::work(rt, SemiOrdered::new(), heading, rest),
+    match Heading::read(first) {
+        Some(Heading { kind: Kind::SemiOrdered, places, step }) => sheet::work(rt, SemiOrdered::new(), Some((places, step)), rest),
+        None => sheet::work(rt, SemiOrdered::new(), None, rest),
     }
 }
 

@@ -1,16 +1,12 @@
 // The sheet as a whole: its title, a working for each packet, and the table at its end.
-use crate::heading::Heading;
-use crate::text::account;
-use crate::text::next_line;
-use crate::text::next_word;
-use crate::text::number;
+use crate::line::Packet;
+use crate::line::is_blank;
 use crate::totals::Totals;
-use flow::account::AccountKey;
 use flow::code::Code;
 use flow::counter::FrameCounter;
-use flow::key::FlowKey;
 use flow::refusal::Refusal;
 use std::io;
+use text::next_line;
 
 // A counter whose adds can be shown step by step.
 pub trait Worked: FrameCounter {
@@ -29,43 +25,20 @@ pub trait Worked: FrameCounter {
     fn show_all(&self, rt: &LibcRuntime) -> io::Result<()>;
 }
 
-// A packet line.
-#[derive(Clone, Copy)]
-pub struct Packet {
-    code: Code,
-    weight: u32,
-}
-
-// The packet of a line, or why there is none.
-fn read_packet(line: &[u8]) -> Result<Packet, &'static str> {
-    let (name, rest) = next_word(line);
-    let (weight, rest) = next_word(rest);
-    if !next_word(rest).0.is_empty() {
-        return Err("a packet is a flow name and a weight, and no more");
-    }
-    let Ok(account) = account(name) else {
-        return Err("a flow name is one to ten digits");
-    };
-    let Some(weight) = number(weight) else {
-        return Err("a weight is a whole number");
-    };
-    Ok(Packet { code: account.code(), weight })
-}
-
-fn show_refusal(rt: &LibcRuntime, line: u32, refusal: Refusal) -> io::Result<()> {
+fn show_refusal(rt: &LibcRuntime, line: u64, refusal: Refusal) -> io::Result<()> {
     let number = refusal.number();
     let words = refusal.words();
     println!(rt, "Line {line}. Refused ({number}): {words}.")?;
     println!(rt)
 }
 
-fn show_unread(rt: &LibcRuntime, line: u32, why: &str) -> io::Result<()> {
+fn show_unread(rt: &LibcRuntime, line: u64, why: &str) -> io::Result<()> {
     println!(rt, "Line {line}. Not read: {why}.")?;
     println!(rt)
 }
 
 // Works one packet: adds it, and prints the working or the refusal.
-fn work_packet<C: Worked>(rt: &LibcRuntime, counter: &mut C, totals: &mut Totals, line: u32, packet: Packet) -> io::Result<()> {
+fn work_packet<C: Worked>(rt: &LibcRuntime, counter: &mut C, totals: &mut Totals, line: u64, packet: Packet) -> io::Result<()> {
     let Packet { code, weight } = packet;
     let before = counter.before(code);
     match counter.add(code, weight) {
@@ -84,8 +57,8 @@ fn work_packet<C: Worked>(rt: &LibcRuntime, counter: &mut C, totals: &mut Totals
 }
 
 // Opens the counter as the heading asks, and prints the title.
-fn work_heading<C: Worked>(rt: &LibcRuntime, counter: &mut C, heading: Heading) -> io::Result<()> {
-    match heading.open {
+fn work_heading<C: Worked>(rt: &LibcRuntime, counter: &mut C, sizes: Option<(u32, u32)>) -> io::Result<()> {
+    match sizes {
         Some((places, step)) => {
             if let Err(refusal) = counter.open(places as usize, step) {
                 show_refusal(rt, 1, refusal)?;
@@ -114,23 +87,28 @@ fn show_totals<C: Worked>(rt: &LibcRuntime, counter: &C, totals: &Totals) -> io:
     println!(rt, "packets {packets}, volume {volume}")
 }
 
-// Works the sheet: the heading, each packet line, and the table at the end.
-pub(crate) fn work<C: Worked + Drop>(rt: &LibcRuntime, mut counter: C, heading: Heading, rest: &[u8]) -> io::Result<()> {
-    work_heading(rt, &mut counter, heading)?;
+// Works one line behind the heading. A blank line is passed over.
+fn work_line<C: Worked>(rt: &LibcRuntime, counter: &mut C, totals: &mut Totals, number: u64, line: &[u8]) -> io::Result<()> {
+    if is_blank(line) {
+        return Ok(());
+    }
+    match Packet::read(line) {
+        Ok(packet) => work_packet(rt, counter, totals, number, packet),
+        Err(unread) => show_unread(rt, number, unread.words()),
+    }
+}
+
+// Works the sheet: the heading, each line behind it, and the table at the end.
+pub(crate) fn work<C: Worked + Drop>(rt: &LibcRuntime, mut counter: C, sizes: Option<(u32, u32)>, rest: &[u8]) -> io::Result<()> {
+    work_heading(rt, &mut counter, sizes)?;
     let mut totals = Totals::new(rt.alloc());
     let mut rest = rest;
-    let mut number = 1;
+    let mut number: u64 = 1;
     while !rest.is_empty() {
         let (line, after) = next_line(rest);
-        number += 1;
+        number = number.saturating_add(1);
         rest = after;
-        if next_word(line).0.is_empty() {
-            continue;
-        }
-        match read_packet(line) {
-            Ok(packet) => work_packet(rt, &mut counter, &mut totals, number, packet)?,
-            Err(why) => show_unread(rt, number, why)?,
-        }
+        work_line(rt, &mut counter, &mut totals, number, line)?;
     }
     show_totals(rt, &counter, &totals)
 }

@@ -1,0 +1,119 @@
+// The lines of an input: a heading, then a packet on each line.
+ghost use mathlib.Core.Path.{_≡_};
+ghost use Prim.Native.Nat.{_-_, _^_, _≤_, min};
+ghost use lib.ListN.{length};
+ghost use Rattle.std.specs.Options.{Cases as BySome};
+ghost use Rattle.std.specs.Reads.{value, Numeral};
+use flow::account::Account;
+use flow::account::AccountKey;
+use flow::code::Code;
+use flow::key::FlowKey;
+use text::next_word;
+use text::number;
+
+// The most digits of a flow name.
+const NAME_DIGITS: usize = 10;
+
+// The kinds of counter that a heading names.
+#[derive(Clone, Copy)]
+pub enum Kind {
+    SemiOrdered,
+}
+
+impl Kind {
+    // The kind of this name.
+    fn named(word: &[u8]) -> Option<Kind> {
+        match word {
+            b"semi-ordered" => Some(Kind::SemiOrdered),
+            _ => None,
+        }
+    }
+}
+
+// The counter that a heading asks for.
+#[derive(Clone, Copy)]
+pub struct Heading {
+    pub kind: Kind,
+    pub places: u32,
+    pub step: u32,
+}
+
+impl Heading {
+    // The heading of a line: a kind, the places and the step.
+    pub(crate) fn read(line: &[u8]) -> Option<Heading> {
+        let (kind, rest) = next_word(line);
+        let (places, rest) = next_word(rest);
+        let (step, rest) = next_word(rest);
+        if !is_blank(rest) {
+            return None;
+        }
+        Some(Heading { kind: Kind::named(kind)?, places: small_number(places)?, step: small_number(step)? })
+    }
+}
+
+// Why a line is no packet.
+#[derive(Clone, Copy)]
+pub enum Unread {
+    Name,
+    Weight,
+    More,
+}
+
+impl Unread {
+    // The reason in words.
+    pub(crate) fn words(self) -> &'static str {
+        match self {
+            Unread::Name => "a flow name is one to ten digits",
+            Unread::Weight => "a weight is a whole number behind the flow name",
+            Unread::More => "a line is a flow name and a weight, and no more",
+        }
+    }
+}
+
+// A packet as a line gives it.
+#[derive(Clone, Copy)]
+pub struct Packet {
+    pub code: Code,
+    pub weight: u32,
+}
+
+impl Packet {
+    // The packet of a line: a flow name and a weight.
+    pub(crate) fn read(line: &[u8]) -> Result<Packet, Unread> {
+        let (name, rest) = next_word(line);
+        let (weight, rest) = next_word(rest);
+        let account = named_account(name).ok_or(Unread::Name)?;
+        let weight = small_number(weight).ok_or(Unread::Weight)?;
+        if !is_blank(rest) {
+            return Err(Unread::More);
+        }
+        Ok(Packet { code: account.code(), weight })
+    }
+}
+
+// Whether the line has no word.
+pub(crate) fn is_blank(line: &[u8]) -> bool {
+    next_word(line).0.is_empty()
+}
+
+// The number that a word writes, or the greatest of its type where it is larger: no limit of a counter lies above that.
+fn small_number(word: &[u8]) -> Option<u32>
+    ensures { λ r. ⌜ BySome r (Numeral 10 (now (word .entry)) → ⊥) (λ n. Numeral 10 (now (word .entry)) × (n ≡ min (value 10 (now (word .entry))) (2 ^ 32 - 1))) ⌝ }
+{
+    let n = number(word)?;
+    Some(n.min(u64::from(u32::MAX)) as u32)
+}
+
+// The account that one to ten digits name.
+fn named_account(word: &[u8]) -> Option<Account>
+    ensures { λ r. ⌜ BySome r (Numeral 10 (now (word .entry)) × (length (now (word .entry)) ≤ 10) → ⊥) (λ a. a .number ≡ value 10 (now (word .entry))) ⌝ }
+{
+    if word.len() > NAME_DIGITS {
+        return None;
+    }
+    let low = number(word)?;
+    match Account::of_code(Code { high: 0, low }) {
+        Ok(account) => Some(account),
+        Err(_) => None,
+    }
+}
