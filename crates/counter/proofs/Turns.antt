@@ -1,12 +1,12 @@
 -- What one turn of the loops over a line keeps.
-use mathlib.Core.Path.{_∙_, _≡_, ap, refl}
-use mathlib.Core.Bool.{false, true}
+use mathlib.Core.Path.{_∙_, _≡_, ap, refl, sym}
+use mathlib.Core.Bool.{_&&_, false, true}
 use mathlib.Core.Logic.{_⊎_, inl, inr}
 use mathlib.Core.List.{List, [], _++_, _∷_, append-assoc}
 use Prim.Native.Nat.{_+_, _<_, _≤_, ℕ}
 use native.Mathlib.Omega.{arith}
 use native.Mathlib.Numerals.{add-one}
-use lib.Dec.{leb}
+use lib.Dec.{leb, ltb}
 use lib.ListN.{drop, getD, length, length-set, set, take}
 use Rattle.counter.proofs.Groups.{atLeast-less}
 use Rattle.counter.proofs.Passes.{atLeast-next}
@@ -15,7 +15,7 @@ use Rattle.counter.specs.declared.entry.Entry.{Entry}
 use Rattle.flow.specs.Codes.{same}
 use Rattle.flow.specs.declared.code.Code.{Code}
 use Rattle.std.proofs.shelf.Lists.{drop-all, drop-more, drop-set-lt, set-split, take-more, take-more-set}
-use Rattle.std.proofs.shelf.Tests.{cases-bool, cases-order, cond-false, cond-true, le-leb, lt-leb}
+use Rattle.std.proofs.shelf.Tests.{and-from, and-parts, cases-bool, cases-lt, cases-order, cond-false, cond-true, false≢true, le-leb, lt-leb, lt-ltb, ltb-true}
 use Rattle.std.proofs.shelf.Ways.{tells}
 
 pub holds-push : (k : Code) (xs : List Entry) (e : Entry) → holds k xs ≡ false → same k (e .code) ≡ false → holds k (xs ++ e ∷ []) ≡ false
@@ -105,6 +105,22 @@ turn-skips new last passed x xs r a h = record {
     counted = omega (arith, between-none last (new .group) x xs h);
     slow = omega arith;
   }
+
+-- a turn by what the code asks
+pub turn-pass : (new : Entry) (last passed : ℕ) (x : Entry) (xs : List Entry) → Rising (x ∷ xs) → AtLeast last (x ∷ xs) →
+    true ≡ ltb last (x .group) && ltb (x .group) (new .group) → Turned new last passed (x ∷ xs) (x .group) (passed + 1) xs
+turn-pass new last passed x xs r a e =
+    let p = and-parts _ _ (sym e) in turn-counts new last passed x xs r a (ltb-true _ _ (p .0)) (ltb-true _ _ (p .1))
+
+pub turn-none : (new : Entry) (last passed : ℕ) (x : Entry) (xs : List Entry) → Rising (x ∷ xs) → AtLeast last (x ∷ xs) →
+    false ≡ ltb last (x .group) && ltb (x .group) (new .group) → Turned new last passed (x ∷ xs) last passed xs
+turn-none new last passed x xs r a e =
+    turn-skips new last passed x xs r a
+    (elim (cases-lt last (x .group)) [
+      inl l ↦ elim (cases-lt (x .group) (new .group)) [
+        inl m ↦ absurd (false≢true (e ∙ and-from _ _ (lt-ltb _ _ l) (lt-ltb _ _ m)))
+      | inr m ↦ inr m ]
+    | inr l ↦ inl l ])
 
 -- the loop's end
 pub line-end : (xs : List Entry) (h : ℕ) (new : Entry) → h < length xs → placed new (drop (h + 1) xs) ≡ new ∷ drop (h + 1) xs → set xs h new ≡ take h xs ++ placed new (drop (h + 1) xs)

@@ -4,12 +4,13 @@ use flow::code::Code;
 use flow::code::CodePartialEq;
 use flow::limits::MOST_PLACES;
 ghost use mathlib.Core.Path.{_≡_};
-ghost use mathlib.Core.Bool.{true, false};
+ghost use mathlib.Core.Bool.{true, false, _&&_};
 ghost use mathlib.Core.List.{_++_};
 ghost use Prim.Native.Nat.{ℕ, _+_, _-_, _^_, _<_, _≤_};
+ghost use lib.Dec.{leb, ltb};
 ghost use lib.ListN.{length, getD, take, drop};
 ghost use Rattle.std.specs.Options.{Cases as BySome};
-ghost use Rattle.counter.specs.Line.{holds, placed, between, AtLeast, Rising, CodesDiffer, Small, raised, added, passes, blank, firstGroup, total, start};
+ghost use Rattle.counter.specs.Line.{holds, placed, between, AtLeast, Rising, CodesDiffer, Small, raised, added, passes, blank, firstGroup, total, entering, start, value};
 ghost use Rattle.counter.specs.declared.entry.Entry.{Entry as Item};
 ghost use Rattle.flow.specs.Codes.{same};
 
@@ -25,6 +26,20 @@ pub(crate) fn find(line: &[Entry], code: Code) -> Option<usize>
     None
 }
 
+// Whether an entry of the group `new` goes behind one of the group `next`.
+fn goes_behind(next: u64, new: u64) -> bool
+    ensures { λ r. ⌜ r ≡ leb next new ⌝ }
+{
+    next <= new
+}
+
+// Whether the group `next` is a further one strictly between: above the last that counted and below `new`.
+fn is_pass(last: u64, next: u64, new: u64) -> bool
+    ensures { λ r. ⌜ r ≡ ltb last next && ltb next new ⌝ }
+{
+    last < next && next < new
+}
+
 // Puts `new` in the place of the entry at `at`, and moves it behind each later one whose group is not above its own.
 // Answers how many different groups above `from` and below its own it passes.
 pub(crate) fn settle(line: &mut [Entry], at: usize, from: u64, new: Entry) -> usize
@@ -36,9 +51,9 @@ pub(crate) fn settle(line: &mut [Entry], at: usize, from: u64, new: Entry) -> us
     let mut hole = at;
     let mut last = from;
     let mut passed = 0;
-    while hole + 1 < line.len() && line[hole + 1].group <= new.group {
+    while hole + 1 < line.len() && goes_behind(line[hole + 1].group, new.group) {
         let next = line[hole + 1];
-        if last < next.group && next.group < new.group {
+        if is_pass(last, next.group, new.group) {
             passed += 1;
             last = next.group;
         }
@@ -75,6 +90,16 @@ pub(crate) fn grow(line: &mut [Entry], at: usize, step: u32, weight: u32) -> usi
     settle(line, at, old.group, new)
 }
 
+// Puts `new` in the place of the first entry, and moves it as `settle` does.
+fn settle_first(line: &mut [Entry], from: u64, new: Entry) -> usize
+    requires within { ⌜ 0 < length (now line) ⌝ }
+    requires order { ⌜ Rising (drop 1 (now line)) ⌝ ∗ ⌜ AtLeast from (drop 1 (now line)) ⌝ }
+    ensures line { λ _. ⌜ now (line .exit) ≡ placed new (drop 1 (now (line .entry))) ⌝ }
+    ensures passes { λ r. ⌜ r ≡ between from (new .group) (drop 1 (now (line .entry))) ⌝ }
+{
+    settle(line, 0, from, new)
+}
+
 // Adds to a code that takes the place of the first entry of a full line.
 pub(crate) fn evict(line: &mut [Entry], step: u32, code: Code, weight: u32) -> usize
     requires sizes { ⌜ 0 < length (now line) ⌝ ∗ ⌜ 0 < step ⌝ ∗ ⌜ step < 2 ^ 22 ⌝ ∗ ⌜ weight < 2 ^ 21 ⌝ ∗ ⌜ firstGroup (now line) < 2 ^ 48 ⌝ }
@@ -83,7 +108,7 @@ pub(crate) fn evict(line: &mut [Entry], step: u32, code: Code, weight: u32) -> u
     ensures passes { λ r. ⌜ ((n : ℕ) → n ≤ length (now (line .entry)) → r ≡ passes n step (now (line .entry)) code weight) ⌝ }
 {
     let first = line[0].group;
-    settle(line, 0, first, raise(code, first, step - 1, step, weight))
+    settle_first(line, first, raise(code, first, step - 1, step, weight))
 }
 
 // Adds to a code that enters the line; the last cell is free.
@@ -94,7 +119,7 @@ pub(crate) fn enter(cells: &mut [Entry], step: u32, code: Code, weight: u32) -> 
     ensures passes { λ r. ⌜ ((n : ℕ) → length (now (cells .entry)) ≤ n → r ≡ passes n step (take (length (now (cells .entry)) - 1) (now (cells .entry))) code weight) ⌝ }
 {
     cells.rotate_right(1);
-    settle(cells, 0, 0, raise(code, 0, 0, step, weight))
+    settle_first(cells, 0, raise(code, 0, 0, step, weight))
 }
 
 // Adds to a code of a line of `len` entries that has room for `places`. Answers the new length and the passes.
@@ -118,19 +143,49 @@ pub(crate) fn count(entries: &mut [Entry; MOST_PLACES], len: usize, places: usiz
     }
 }
 
+// The group of the first entry.
+fn first_group(line: &[Entry]) -> u64
+    ensures { λ r. ⌜ r ≡ firstGroup (now (line .entry)) ⌝ }
+{
+    match line {
+        [first, ..] => first.group,
+        [] => 0,
+    }
+}
+
+// What an absent code counts from.
+fn entering_as(line: &[Entry], places: usize, step: u32, code: Code) -> Entry
+    requires { ⌜ 0 < step ⌝ }
+    ensures { λ r. ⌜ r ≡ entering places step (now (line .entry)) code ⌝ }
+{
+    if line.len() < places {
+        return Entry { code, group: 0, remainder: 0 };
+    }
+    Entry { code, group: first_group(line), remainder: step - 1 }
+}
+
 // What a code counts from.
 pub(crate) fn started(line: &[Entry], places: usize, step: u32, code: Code) -> Entry
-    requires { ⌜ 0 < step ⌝ ∗ ⌜ 0 < places ⌝ }
+    requires { ⌜ 0 < step ⌝ }
     ensures { λ r. ⌜ r ≡ start places step (now (line .entry)) code ⌝ }
 {
     match find(line, code) {
         Some(at) => line[at],
-        None => {
-            if line.len() < places {
-                Entry { code, group: 0, remainder: 0 }
-            } else {
-                Entry { code, group: line[0].group, remainder: step - 1 }
-            }
-        }
+        None => entering_as(line, places, step, code),
     }
+}
+
+// Whether the line has an entry of the code.
+pub(crate) fn is_held(line: &[Entry], code: Code) -> bool
+    ensures { λ r. ⌜ r ≡ holds code (now (line .entry)) ⌝ }
+{
+    find(line, code).is_some()
+}
+
+// The number that an entry stands for.
+pub(crate) fn worth(step: u32, entry: Entry) -> u64
+    requires { ⌜ value step entry < 2 ^ 64 ⌝ }
+    ensures { λ r. ⌜ r ≡ value step entry ⌝ }
+{
+    step as u64 * entry.group + entry.remainder as u64
 }

@@ -1,8 +1,9 @@
 // The calls of a semi-ordered counter.
 use crate::entry::Entry;
 use crate::line::count;
-use crate::line::find;
+use crate::line::is_held;
 use crate::line::started;
+use crate::line::worth;
 use crate::semi::SemiOrdered;
 use flow::code::Code;
 use flow::counter::FrameCounter;
@@ -40,7 +41,7 @@ impl SemiOrdered {
     pub fn holds(&self, code: Code) -> bool
         ensures { λ r. ⌜ r ≡ holds code (semiMeaning .model (now (self .entry)) .line) ⌝ }
     {
-        find(&self.entries[0..self.len], code).is_some()
+        is_held(&self.entries[0..self.len], code)
     }
 
     // What the code counts from: its own entry, or the one with which it would enter.
@@ -95,8 +96,7 @@ pub impl FrameCounter for SemiOrdered as SemiCounter {
     }
 
     fn estimate(&self, code: Code) -> u64 {
-        let from = self.start(code);
-        self.step as u64 * from.group + from.remainder as u64
+        worth(self.step, self.start(code))
     }
 
     fn places(&self) -> usize {

@@ -19,8 +19,8 @@ behind xs out h e =
 few : (xs : List Entry) (n : ℕ) → 0 < length xs → length xs ≤ n → length (take (length xs - 1) xs) < n
 few xs n h q = omega (arith, length-take-le (length xs - 1) xs (omega arith))
 
-pub settle-requires : need.settle-requires
-settle-requires c κs =
+pub settle-first-requires : need.settle-first-requires
+settle-first-requires c κs =
     let b = behind _ _ (c .pre .sizes .0) (c .rotate-right .ensures .after) in
     record { within = omega (arith, c .rotate-right .ensures .len, c .pre .sizes .0); order = rw b (c .pre .lawful .0, atLeast-zero _) }
 
@@ -28,6 +28,6 @@ pub returns : need.returns
 returns c =
     let b = behind _ _ (c .pre .sizes .0) (c .rotate-right .ensures .after) in
     record {
-      line = λ n q. enter-line _ _ _ _ _ (c .pre .lawful .1) n (few _ n (c .pre .sizes .0) q) (c .raise .ensures) _ (c .rotate-right .last .self) b (c .settle .ensures .line);
-      passes = λ n q. enter-passes _ _ _ _ _ (c .pre .lawful .1) n (few _ n (c .pre .sizes .0) q) (c .raise .ensures) _ (c .rotate-right .last .self) b (c .settle .ensures .passes);
+      line = λ n q. enter-line _ _ _ _ _ (c .pre .lawful .1) n (few _ n (c .pre .sizes .0) q) (c .raise .ensures) _ (c .rotate-right .last .self) b (c .settle-first .ensures .line);
+      passes = λ n q. enter-passes _ _ _ _ _ (c .pre .lawful .1) n (few _ n (c .pre .sizes .0) q) (c .raise .ensures) _ (c .rotate-right .last .self) b (c .settle-first .ensures .passes);
     }
