@@ -9,3 +9,9 @@ pub mod Turns
 pub mod Steps
 pub mod Memory
 pub mod SemiLaws
+pub mod Searches
+pub mod Counts
+pub mod Deductions
+pub mod Shares
+pub mod SharedLaws
+pub mod SharedCells

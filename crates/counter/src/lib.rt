@@ -1,4 +1,7 @@
 // Two frame counters.
 pub mod entry;
 mod line;
+pub mod place;
+mod places;
 pub mod semi;
+pub mod shared;

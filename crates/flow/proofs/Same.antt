@@ -1,5 +1,5 @@
 -- When two keys are the same.
-use mathlib.Core.Path.{_≡_, sym, ap, _∙_}
+use mathlib.Core.Path.{_≡_, sym, ap}
 use mathlib.Core.Bool.{Bool, true, false}
 use mathlib.Core.HLevel.{isProp→PathP}
 use native.Mathlib.Bridge.{le-prop}
@@ -30,10 +30,9 @@ same-account x k p = λ i. record {
     short = isProp→PathP (λ j. p j < 10 ^ 10) (λ j. le-prop) (x .short) (k .short) i }
 
 -- keys are the same where their codes are, if no two keys share a code
-pub keys-tell : {K : Type 0} (coded : K → Code) → ((j k : K) → coded j ≡ coded k → j ≡ k) → (r : Bool) (a b : K) (x y : Code) → x ≡ coded a → y ≡ coded b →
-    r ≡ same x y → When r (a ≡ b) (a ≡ b → ⊥)
-keys-tell coded apart true a b x y p q h = apart a b (sym p ∙ same-true x y (sym h) ∙ q)
-keys-tell coded apart false a b x y p q h = λ e. apart-same x y (sym h) (p ∙ ap coded e ∙ sym q)
+pub keys-tell : {K : Type 0} (coded : K → Code) → ((j k : K) → coded j ≡ coded k → j ≡ k) → (r : Bool) (a b : K) → r ≡ same (coded a) (coded b) → When r (a ≡ b) (a ≡ b → ⊥)
+keys-tell coded apart true a b h = apart a b (same-true (coded a) (coded b) (sym h))
+keys-tell coded apart false a b h = λ e. apart-same (coded a) (coded b) (sym h) (ap coded e)
 
 -- a kind whose keys come back from their codes has no two keys with one code
 pub apart-from-back : {K : Type 0} (coded : K → Code) → ((k : K) (r : Result K Refusal) → MadeOf coded (coded k) r → r ≡ Ok k) → (j k : K) → coded j ≡ coded k → j ≡ k

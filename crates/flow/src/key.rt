@@ -8,9 +8,9 @@ ghost use Rattle.std.specs.declared.result.Result.{Result};
 ghost use Rattle.std.specs.declared.result.Result.the-variants.{Ok};
 ghost use Rattle.flow.specs.declared.code.Code.{Code as Coded};
 ghost use Rattle.flow.specs.declared.refusal.Refusal.{Refusal as Refused};
+ghost use Rattle.flow.specs.Codes.{same};
 ghost use Rattle.flow.specs.Keys.{MadeOf, ReadFrom};
 use crate::code::Code;
-use crate::code::CodePartialEq;
 use crate::refusal::Refusal;
 
 // A kind of flow key.
@@ -52,10 +52,17 @@ pub trait FlowKey: Sized {
         ensures { λ r. ⌜ ReadFrom spells (now (bytes .entry)) r ⌝ };
 }
 
+// Whether two keys have one code.
+fn share_a_code<K: FlowKey>(a: &K, b: &K) -> bool
+    ensures { λ r. ⌜ r ≡ same (coded (now (a .entry))) (coded (now (b .entry))) ⌝ }
+{
+    a.code().same(b.code())
+}
+
 // Whether two keys are of one flow: their codes tell.
 pub fn same_flow<K: FlowKey>(a: &K, b: &K) -> bool
     ensures same { λ r. ⌜ When r (now (a .entry) ≡ now (b .entry)) (now (a .entry) ≡ now (b .entry) → ⊥) ⌝ }
     ensures no_two_keys_share_a_code { λ _. ⌜ ((j k : K) → coded j ≡ coded k → j ≡ k) ⌝ }
 {
-    a.code() == b.code()
+    share_a_code(a, b)
 }

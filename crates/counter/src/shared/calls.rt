@@ -1,0 +1,114 @@
+// The calls of a shared-deduction counter.
+use crate::place::Place;
+use crate::places;
+use crate::shared::SharedDeduction;
+use flow::code::Code;
+use flow::counter::FrameCounter;
+use flow::limits::MOST_PACKETS;
+use flow::limits::MOST_PLACES;
+use flow::limits::MOST_WEIGHT;
+use flow::refusal::Refusal;
+ghost use mathlib.Core.Path.{_≡_};
+ghost use Prim.Native.Nat.{_≤_, _<_};
+ghost use Rattle.counter.specs.Shared.{sharedMeaning, sharedOpened};
+
+// The only step of such a counter.
+const STEP: u32 = 1;
+
+impl SharedDeduction {
+    // A counter as opened with so many places.
+    fn opened(places: usize) -> SharedDeduction
+        requires { ⌜ 0 < places ⌝ ∗ ⌜ places ≤ 256 ⌝ }
+        ensures { λ r. ⌜ sharedMeaning .model r ≡ sharedOpened places ⌝ }
+    {
+        SharedDeduction {
+            places,
+            packets: 0,
+            volume: 0,
+            deduction: 0,
+            cells: [Place::Empty; MOST_PLACES],
+        }
+    }
+
+    // A counter as opened with 1 and 1.
+    pub fn new() -> SharedDeduction
+        ensures { λ r. ⌜ sharedMeaning .model r ≡ sharedOpened 1 ⌝ }
+    {
+        SharedDeduction::opened(1)
+    }
+
+    // The deduction.
+    pub fn deduction(&self) -> u64
+        ensures { λ r. ⌜ r ≡ sharedMeaning .model (now (self .entry)) .deduction ⌝ }
+    {
+        self.deduction // the same for every code
+    }
+
+    // The places, in their order.
+    pub fn held(&self) -> &[Place]
+        ensures { λ r. ⌜ now r ≡ sharedMeaning .model (now (self .entry)) .held ⌝ }
+    {
+        &self.cells[0..self.places]
+    }
+}
+
+pub impl FrameCounter for SharedDeduction as SharedCounter {
+    ghost meaning = { sharedMeaning };
+
+    fn open(&mut self, places: usize, step: u32) -> Result<(), Refusal> {
+        if places < 1 || places > MOST_PLACES {
+            return Err(Refusal::PlacesOutOfRange);
+        }
+        if step != STEP {
+            return Err(Refusal::StepOutOfRange);
+        }
+        *self = SharedDeduction::opened(places);
+        Ok(())
+    }
+
+    fn flush(&mut self) {
+        *self = SharedDeduction::opened(self.places);
+    }
+
+    fn add(&mut self, code: Code, weight: u32) -> Result<usize, Refusal> {
+        if weight < 1 || weight > MOST_WEIGHT {
+            return Err(Refusal::WeightOutOfRange);
+        }
+        if self.packets == MOST_PACKETS {
+            return Err(Refusal::CounterFull);
+        }
+        let weight = u64::from(weight);
+        let (rise, passes) = match places::add(&mut self.cells[0..self.places], code, weight) {
+            Some(rise) => (rise, self.places),
+            None => (0, 0),
+        };
+        self.packets += 1;
+        self.volume += weight;
+        self.deduction += rise;
+        Ok(passes)
+    }
+
+    fn estimate(&self, code: Code) -> u64 {
+        places::count_of(self.held(), code) + self.deduction
+    }
+
+    fn places(&self) -> usize {
+        self.places
+    }
+
+    fn step(&self) -> u32 {
+        STEP
+    }
+
+    fn packets(&self) -> u32 {
+        self.packets
+    }
+
+    fn volume(&self) -> u64 {
+        self.volume
+    }
+
+    fn greatest_step(&self) -> u32 {
+        STEP
+    }
+}
