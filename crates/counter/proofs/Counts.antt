@@ -1,12 +1,11 @@
 -- What the steps of an add do to the places: their number, their codes and their counts.
-use mathlib.Core.Path.{_≡_, refl, sym, ap, subst, _∙_}
-use mathlib.Core.Bool.{Bool, true, false, cond, _&&_, not}
+use mathlib.Core.Path.{_≡_, refl}
+use mathlib.Core.Bool.{true, false}
 use mathlib.Core.Logic.{inl, inr}
 use mathlib.Core.List.{List, [], _∷_}
 use Prim.Native.Nat.{ℕ, _+_, _-_, _*_, _≤_, _<_, min}
 use native.Mathlib.Omega.{arith}
 use native.Mathlib.Nat.{suc-mul}
-use lib.Dec.{eqb, ltb}
 use lib.ListN.{length}
 use Rattle.std.proofs.shelf.Tests.{cases-lt}
 use Rattle.std.proofs.shelf.Ways.{tells}
@@ -15,7 +14,7 @@ use Rattle.flow.proofs.Codes.{same-refl, same-true, same-sym}
 use Rattle.flow.specs.declared.code.Code.{Code}
 use Rattle.counter.specs.declared.place.Place.{Place}
 use Rattle.counter.specs.declared.place.Place.the-variants.{Empty, Held}
-use Rattle.counter.specs.Places.{holds, countOf, anyEmpty, raised, entered, least, less, lowered, counted, tidy}
+use Rattle.counter.specs.Places.{holds, countOf, anyEmpty, raised, entered, least, lowered, counted, tidy}
 use Rattle.counter.proofs.Searches.{countOf-missing}
 
 -- the number of the places
@@ -55,11 +54,6 @@ pub least-within : (w : ℕ) (ps : List Place) → least w ps ≤ w
 least-within w [] = omega arith
 least-within w (Empty ∷ ps) = least-within w ps
 least-within w (Held j c ∷ ps) = omega (arith, least-within (min w c) ps)
-
-above-less : (l m : ℕ) (ps : List Place) → l ≤ m → Above m ps → Above l ps
-above-less l m [] q a = tt
-above-less l m (Empty ∷ ps) q a = above-less l m ps q a
-above-less l m (Held j c ∷ ps) q a = (omega arith, above-less l m ps q (a .1))
 
 pub above-least : (w : ℕ) (ps : List Place) → Above (least w ps) ps
 above-least w [] = tt

@@ -1,3 +1,4 @@
+pub mod Fronts
 pub mod Entries
 pub mod Groups
 pub mod Adding

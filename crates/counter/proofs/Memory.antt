@@ -8,7 +8,8 @@ use native.Mathlib.Nat.{mul-le-mul}
 use lib.ListN.{length, length-take, take}
 use Rattle.counter.proofs.Adding.{added-lawful}
 use Rattle.counter.proofs.Orders.{orderly-from, orderly-test}
-use Rattle.counter.proofs.Steps.{front-is, value-start}
+use Rattle.counter.proofs.Fronts.{front-is}
+use Rattle.counter.proofs.Steps.{value-start}
 use Rattle.counter.specs.Line.{Lawful, added, orderly, start, total, value}
 use Rattle.counter.specs.declared.entry.Entry.{Entry}
 use Rattle.counter.specs.declared.semi.SemiOrdered.{SemiOrdered}

@@ -1,12 +1,11 @@
 -- The searches for a code and for an empty place, by the place where they end.
 use mathlib.Core.Path.{_≡_, refl, sym, ap, _∙_}
-use mathlib.Core.Bool.{Bool, true, false, cond}
+use mathlib.Core.Bool.{true, false}
 use mathlib.Core.List.{List, [], _∷_, _++_}
 use Prim.Native.Nat.{ℕ, zero, suc, _+_, _≤_, _<_}
 use native.Mathlib.Omega.{arith}
 use lib.ListN.{length, take, getD, set}
 use Rattle.std.proofs.shelf.Lists.{take-more, set-getD}
-use Rattle.std.proofs.shelf.Ways.{tells}
 use Rattle.flow.specs.Codes.{same}
 use Rattle.flow.specs.declared.code.Code.{Code}
 use Rattle.counter.specs.declared.place.Place.{Place}

@@ -1,10 +1,9 @@
 -- The cells of a shared-deduction counter and its places.
 use mathlib.Core.Path.{_≡_, refl, sym, ap, _∙_}
-use mathlib.Core.Bool.{Bool, true, false, cond, _||_}
+use mathlib.Core.Bool.{Bool, true, false, cond}
 use mathlib.Core.List.{List, _++_}
-use Prim.Native.Nat.{ℕ, _+_, _-_, _*_, _≤_, _<_}
+use Prim.Native.Nat.{ℕ, _+_, _-_, _≤_}
 use native.Mathlib.Omega.{arith}
-use native.Mathlib.Nat.{sub-zero}
 use lib.ListN.{length, take}
 use Rattle.std.specs.declared.option.Option.{Option}
 use Rattle.std.specs.declared.option.Option.the-variants.{Some, None}
@@ -12,10 +11,10 @@ use Rattle.std.proofs.shelf.Lists.{length-take-le, take-at}
 use Rattle.flow.specs.declared.code.Code.{Code}
 use Rattle.counter.specs.declared.place.Place.{Place}
 use Rattle.counter.specs.declared.shared.SharedDeduction.{SharedDeduction}
-use Rattle.counter.specs.Places.{holds, anyEmpty, least, deducted, added, counted, tidy}
-use Rattle.counter.specs.Shared.{SharedModel, SharedSound, sharedMore, sharedMeaning}
+use Rattle.counter.specs.Places.{added}
+use Rattle.counter.specs.Shared.{SharedSound, sharedMeaning}
 use Rattle.counter.proofs.Deductions.{length-added}
-use Rattle.counter.proofs.SharedLaws.{more-sound}
+use Rattle.counter.proofs.Fronts.{front-is}
 
 -- what every counter keeps
 pub sound : (c : SharedDeduction) → c .places ≤ length (c .cells) → SharedSound (sharedMeaning .model c)
@@ -30,11 +29,8 @@ pub rise-none : (b : Bool) (m n : ℕ) (r : Option ℕ) → r ≡ cond b None (S
 rise-none true m n r h e = (refl, refl)
 rise-none false m n r h e = grind arith
 
--- the first n cells, as the step reads them and as it writes them back with others behind them
-pub front-is : (n : ℕ) (cells : List Place) → take (n - 0) cells ≡ take n cells
-front-is n cells = ap (λ (m : ℕ). take m cells) (sub-zero n)
-
+-- the first n cells, as the step writes them back with others behind them
 pub places-held : (n : ℕ) (cells out post : List Place) (k : Code) (w : ℕ) → n ≤ length cells → out ≡ added (take (n - 0) cells) k w → take n (out ++ post) ≡ added (take n cells) k w
 places-held n cells out post k w short e =
-    let at = e ∙ ap (λ (ps : List Place). added ps k w) (front-is n cells) in
+    let at = e ∙ ap (λ (ps : List Place). added ps k w) (sym (front-is n cells)) in
     take-at out post n (ap length at ∙ length-added (take n cells) k w ∙ length-take-le n cells short) ∙ at

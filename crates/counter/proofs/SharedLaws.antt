@@ -1,13 +1,12 @@
 -- The laws of a shared-deduction counter.
-use mathlib.Core.Path.{_≡_, refl, sym, ap, subst, _∙_}
-use mathlib.Core.Bool.{Bool, true, false, cond, _||_}
-use mathlib.Core.Logic.{_⊎_, inl, inr}
+use mathlib.Core.Path.{_≡_, refl, sym, ap, _∙_}
+use mathlib.Core.Bool.{true}
+use mathlib.Core.Logic.{inl, inr}
 use mathlib.Core.List.{List, [], _∷_}
 use Prim.Native.Nat.{ℕ, zero, suc, _+_, _-_, _*_, _≤_, _<_}
 use native.Mathlib.Omega.{arith}
-use native.Mathlib.Nat.{add-mul, mul-add, one-mul, mul-le-mul-left}
-use lib.Dec.{eqb}
-use lib.ListN.{length, replicate}
+use native.Mathlib.Nat.{add-mul, mul-add, mul-le-mul-left}
+use lib.ListN.{replicate}
 use Rattle.std.specs.Vec.{Every}
 use Rattle.std.proofs.shelf.Lists.{length-replicate}
 use Rattle.std.proofs.shelf.Tests.{cases-bool}
@@ -19,7 +18,7 @@ use Rattle.flow.proofs.Codes.{same-apart}
 use Rattle.flow.specs.declared.code.Code.{Code}
 use Rattle.counter.specs.declared.place.Place.{Place}
 use Rattle.counter.specs.declared.place.Place.the-variants.{Empty}
-use Rattle.counter.specs.Places.{holds, countOf, anyEmpty, deducted, added, counted, tidy}
+use Rattle.counter.specs.Places.{holds, countOf, deducted, added, counted, tidy}
 use Rattle.counter.specs.Shared.{SharedModel, SharedSound, sharedOpened, sharedMore, sharedMeaning}
 use Rattle.counter.proofs.Searches.{countOf-missing, countOf-within}
 use Rattle.counter.proofs.Deductions.{length-added, tidy-added, counted-added, own-added, other-added}

@@ -6,11 +6,12 @@ use mathlib.Core.List.{List, [], _++_, _∷_}
 use Prim.Native.Nat.{_+_, _-_, _<_, _≤_, suc, zero, ℕ}
 use native.Mathlib.Omega.{arith}
 use native.Mathlib.Numerals.{add-one}
-use native.Mathlib.Nat.{mul-le-mul-right, one-mul, sub-zero}
+use native.Mathlib.Nat.{mul-le-mul-right, one-mul}
 use lib.ListN.{drop, getD, length, set, take}
 use Rattle.counter.proofs.Adding.{rest-lawful, small-start}
 use Rattle.counter.proofs.Entries.{entryOf-absent, total-without}
 use Rattle.counter.proofs.Estimates.{estimate-full, estimate-room}
+use Rattle.counter.proofs.Fronts.{front-is}
 use Rattle.counter.specs.Line.{AtLeast, CodesDiffer, Lawful, Rising, Small, added, between, blank, entering, entryOf, firstGroup, holds, others, passes, placed, raised, replaced, rest, start, total, value, without}
 use Rattle.counter.specs.declared.entry.Entry.{Entry}
 use Rattle.flow.proofs.Codes.{same-refl, same-sym, same-true}
@@ -220,10 +221,6 @@ module _ (s w : ℕ) (xs : List Entry) (k : Code) (new : Entry) (h : holds k xs 
   pub enter-passes : (n : ℕ) → length xs < n → new ≡ raised s w k (record { code = k; group = 0; remainder = 0 }) → (out : ℕ) (cells : List Entry) → drop 1 cells ≡ xs →
       out ≡ between 0 (new .group) (drop 1 cells) → out ≡ passes n s xs k w
   enter-passes n q e out cells d o = o ∙ ap (between 0 (new .group)) d ∙ ap (λ (x : Entry). between 0 (x .group) xs) e ∙ sym (enters-passes n s w xs k h q)
-
--- a part from the start, as the checker reads it
-pub front-is : (n : ℕ) (xs : List Entry) → take n xs ≡ take (n - 0) xs
-front-is n xs = ap (λ (m : ℕ). take m xs) (sym (sub-zero n))
 
 pub group-bound : (s b : ℕ) (xs : List Entry) (i : ℕ) → 0 < s → i < length xs → total s xs < b → getD xs i blank .group < b
 group-bound s b [] i p l h = grind arith

@@ -5,3 +5,4 @@ pub mod place;
 mod places;
 pub mod semi;
 pub mod shared;
+pub mod sheets;

@@ -107,11 +107,15 @@ pub impl FrameCounter for SemiOrdered as SemiCounter {
         self.step
     }
 
-    fn packets(&self) -> u32 {
+    fn packets(&self) -> u32
+        ensures { λ r. ⌜ r ≡ semiMeaning .model (now (self .entry)) .packets ⌝ }
+    {
         self.packets
     }
 
-    fn volume(&self) -> u64 {
+    fn volume(&self) -> u64
+        ensures { λ r. ⌜ r ≡ semiMeaning .model (now (self .entry)) .volume ⌝ }
+    {
         self.volume
     }
 

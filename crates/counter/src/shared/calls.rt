@@ -10,6 +10,8 @@ use flow::limits::MOST_WEIGHT;
 use flow::refusal::Refusal;
 ghost use mathlib.Core.Path.{_≡_};
 ghost use Prim.Native.Nat.{_≤_, _<_};
+ghost use Rattle.flow.specs.Answers.{told, Unchanged};
+ghost use Rattle.flow.specs.Meanings.{addAnswer, addLeaves};
 ghost use Rattle.counter.specs.Shared.{sharedMeaning, sharedOpened};
 
 // The only step of such a counter.
@@ -41,7 +43,7 @@ impl SharedDeduction {
     pub fn deduction(&self) -> u64
         ensures { λ r. ⌜ r ≡ sharedMeaning .model (now (self .entry)) .deduction ⌝ }
     {
-        self.deduction // the same for every code
+        self.deduction
     }
 
     // The places, in their order.
@@ -70,7 +72,11 @@ pub impl FrameCounter for SharedDeduction as SharedCounter {
         *self = SharedDeduction::opened(self.places);
     }
 
-    fn add(&mut self, code: Code, weight: u32) -> Result<usize, Refusal> {
+    fn add(&mut self, code: Code, weight: u32) -> Result<usize, Refusal>
+        ensures answer { λ r. ⌜ told r ≡ addAnswer sharedMeaning (sharedMeaning .model (now (self .entry))) code weight ⌝ }
+        ensures state { λ _. ⌜ sharedMeaning .model (now (self .exit)) ≡ addLeaves sharedMeaning (sharedMeaning .model (now (self .entry))) code weight ⌝ }
+        ensures unchanged { λ r. ⌜ Unchanged r (now (self .entry)) (now (self .exit)) ⌝ }
+    {
         if weight < 1 || weight > MOST_WEIGHT {
             return Err(Refusal::WeightOutOfRange);
         }
@@ -100,11 +106,15 @@ pub impl FrameCounter for SharedDeduction as SharedCounter {
         STEP
     }
 
-    fn packets(&self) -> u32 {
+    fn packets(&self) -> u32
+        ensures { λ r. ⌜ r ≡ sharedMeaning .model (now (self .entry)) .packets ⌝ }
+    {
         self.packets
     }
 
-    fn volume(&self) -> u64 {
+    fn volume(&self) -> u64
+        ensures { λ r. ⌜ r ≡ sharedMeaning .model (now (self .entry)) .volume ⌝ }
+    {
         self.volume
     }
 

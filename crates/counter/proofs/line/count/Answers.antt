@@ -5,7 +5,8 @@ use Prim.Native.Nat.{_+_, _-_, _<_, _^_, _≤_, ℕ}
 use native.Mathlib.Omega.{arith}
 use lib.ListN.{getD, length, take}
 use Rattle.counter.proofs.Memory.{lawful}
-use Rattle.counter.proofs.Steps.{cells-front, count-length, count-line, count-passes, first-at, front-is, group-bound, grown-line, grown-more, grown-passes}
+use Rattle.counter.proofs.Fronts.{front-is}
+use Rattle.counter.proofs.Steps.{cells-front, count-length, count-line, count-passes, first-at, group-bound, grown-line, grown-more, grown-passes}
 use Rattle.counter.specs.Line.{CodesDiffer, Rising, Small, added, blank, holds, passes, total}
 use Rattle.counter.specs.declared.entry.Entry.{Entry}
 use Rattle.flow.proofs.Codes.{same-true}

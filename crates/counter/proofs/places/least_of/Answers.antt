@@ -1,10 +1,10 @@
-use mathlib.Core.Path.{_≡_, refl, sym, ap, _∙_}
+use mathlib.Core.Path.{_≡_, sym, ap, _∙_}
 use mathlib.Core.List.{List, _∷_}
 use Prim.Native.Nat.{ℕ, _+_, _<_}
 use lib.ListN.{length, drop, getD}
 use Rattle.std.proofs.shelf.Lists.{at-drop-more, at-drop-all}
 use Rattle.counter.specs.declared.place.Place.{Place}
-use Rattle.counter.specs.declared.place.Place.the-variants.{Empty, Held}
+use Rattle.counter.specs.declared.place.Place.the-variants.{Empty}
 use Rattle.counter.specs.Places.{least}
 use Rattle.counter.proofs.places.least_of.Needs as need
 use Rattle.counter.proofs.places.least_of.Needs.{in-Held, in-rest}

@@ -1,12 +1,11 @@
-use mathlib.Core.Path.{_≡_, refl, ap, _∙_}
+use mathlib.Core.Path.{ap, _∙_}
 use mathlib.Core.List.{List}
 use native.Mathlib.Omega.{arith}
-use Prim.Native.Nat.{_+_, _*_}
 use Rattle.std.proofs.shelf.Lists.{take-replicate}
 use Rattle.counter.specs.declared.place.Place.{Place}
 use Rattle.counter.specs.declared.place.Place.the-variants.{Empty}
 use Rattle.counter.specs.Places.{counted, tidy}
-use Rattle.counter.specs.Shared.{SharedModel, sharedOpened}
+use Rattle.counter.specs.Shared.{SharedModel}
 use Rattle.counter.proofs.SharedLaws.{tidy-empty, counted-empty}
 use Rattle.counter.proofs.shared.SharedDeduction.opened.Needs as need
 

@@ -1,5 +1,5 @@
-use mathlib.Core.Path.{_≡_, refl, sym, ap, subst, _∙_}
-use mathlib.Core.Bool.{true, false, cond, _||_}
+use mathlib.Core.Path.{_≡_, sym, ap, _∙_}
+use mathlib.Core.Bool.{cond, _||_}
 use mathlib.Core.List.{List, _++_}
 use native.Mathlib.Omega.{arith}
 use borrow.Rule.Slice.PartMut.{postOf}
@@ -8,11 +8,12 @@ use lib.ListN.{length, take}
 use Rattle.std.specs.declared.option.Option.the-variants.{Some, None}
 use Rattle.flow.specs.Answers.{Answer, answered}
 use Rattle.flow.specs.Limits.{mostWeight, mostPackets}
-use Rattle.counter.specs.Places.{holds, anyEmpty, least, deducted, added, counted, tidy}
+use Rattle.counter.specs.Places.{holds, anyEmpty, least, deducted, counted, tidy}
 use Rattle.counter.specs.declared.place.Place.{Place}
 use Rattle.counter.specs.Shared.{SharedSound, sharedMore, sharedMeaning}
+use Rattle.counter.proofs.Fronts.{front-is}
 use Rattle.counter.proofs.SharedLaws.{more-sound, estimate-within, answer-taken, more-left}
-use Rattle.counter.proofs.SharedCells.{sound, rise-some, rise-none, front-is, places-held}
+use Rattle.counter.proofs.SharedCells.{sound, rise-some, rise-none, places-held}
 use Rattle.counter.proofs.shared.calls.SharedCounter.add.Needs as need
 use Rattle.counter.proofs.shared.calls.SharedCounter.add.Needs.{Joined-add, in-Some, in-None}
 
@@ -29,7 +30,7 @@ stepped c =
     let k = c .args .code in
     let w = c .from-weight .result in
     let short : c .args .self .now .places ≤ length (c .args .self .now .cells) = omega arith in
-    let told = c .add .ensures .rise ∙ ap (λ (ps : List Place). cond (holds k ps || anyEmpty ps) None (Some (least w ps))) (front-is (x .places) (x .cells)) in
+    let told = c .add .ensures .rise ∙ ap (λ (ps : List Place). cond (holds k ps || anyEmpty ps) None (Some (least w ps))) (sym (front-is (x .places) (x .cells))) in
     let both : (c .match-add .rise .0 ≡ deducted (sharedMeaning .model (c .args .self .now) .held) (c .args .code) (c .from-weight .result)) ×
     (c .match-add .rise .1 ≡ sharedMeaning .passes (sharedMeaning .model (c .args .self .now)) (c .args .code) (c .from-weight .result)) =
     elim (c .match-add .came) [
@@ -68,7 +69,7 @@ returns c =
     let light : c .args .weight ≤ mostWeight = omega arith in
     let room : c .args .self .now .packets ≡ mostPackets → ⊥ = λ e. omega arith in
     record {
-      answer = λ _. ap {B = Answer ℕ} answered (s .passes) ∙ sym (answer-taken x k w some light room);
-      state = λ _. more-left x k w some light room _ _ _ (c .from-weight .ensures) (s .rise) (s .held _);
+      answer = ap {B = Answer ℕ} answered (s .passes) ∙ sym (answer-taken x k w some light room);
+      state = more-left x k w some light room _ _ _ (c .from-weight .ensures) (s .rise) (s .held _);
       unchanged = tt;
     }

@@ -1,8 +1,7 @@
-use mathlib.Core.Path.{_≡_, sym, subst}
+use mathlib.Core.Path.{_≡_, subst}
 use native.Mathlib.Omega.{arith}
 use Prim.Native.Nat.{ℕ, _≤_, _<_}
 use Rattle.std.proofs.shelf.Ways.{tells}
-use Rattle.flow.specs.Answers.{Answer, answered, refused}
 use Rattle.flow.specs.Limits.{mostPackets}
 use Rattle.flow.specs.Meanings.{Fresh}
 use Rattle.counter.specs.Shared.{sharedOpened, sharedMeaning}
