@@ -6,7 +6,7 @@ ghost use mathlib.Core.Path.{_≡_};
 ghost use mathlib.Core.Bool.{cond, _||_};
 ghost use Prim.Native.Nat.{_+_, _^_, _<_};
 ghost use Rattle.std.specs.declared.option.Option.the-variants.{Some, None};
-ghost use Rattle.counter.specs.Places.{holds, countOf, anyEmpty, raised, entered, least, lowered, added, counted};
+ghost use Rattle.counter.specs.Places.{holds, countOf, anyEmpty, raised, entered, least, less, lowered, added, counted};
 
 // The count of the code, 0 where no place has it.
 pub(crate) fn count_of(places: &[Place], code: Code) -> u64
@@ -66,21 +66,22 @@ fn least_of(places: &[Place], weight: u64) -> u64
     smallest
 }
 
-// Lowers every count. A place whose count is used up is empty then.
+// The place with its count lowered, empty where the count is used up.
+fn with_less(place: Place, by: u64) -> Place
+    ensures { λ r. ⌜ r ≡ less by place ⌝ }
+{
+    match place {
+        Place::Held { code, count } if count > by => Place::Held { code, count: count - by },
+        _ => Place::Empty,
+    }
+}
+
+// Lowers every count.
 fn lower(places: &mut [Place], by: u64)
     ensures { λ _. ⌜ now (places .exit) ≡ lowered by (now (places .entry)) ⌝ }
 {
     for place in places.iter_mut() {
-        if let Place::Held { code, count } = *place {
-            *place = if count > by {
-                Place::Held {
-                    code,
-                    count: count - by,
-                }
-            } else {
-                Place::Empty
-            };
-        }
+        *place = with_less(*place, by);
     }
 }
 

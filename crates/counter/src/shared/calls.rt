@@ -9,13 +9,25 @@ use flow::limits::MOST_PLACES;
 use flow::limits::MOST_WEIGHT;
 use flow::refusal::Refusal;
 ghost use mathlib.Core.Path.{_≡_};
+ghost use mathlib.Core.Bool.{cond};
 ghost use Prim.Native.Nat.{_≤_, _<_};
+ghost use Rattle.std.specs.Options.{isSome, valueOr};
 ghost use Rattle.flow.specs.Answers.{told, Unchanged};
 ghost use Rattle.flow.specs.Meanings.{addAnswer, addLeaves};
 ghost use Rattle.counter.specs.Shared.{sharedMeaning, sharedOpened};
 
 // The only step of such a counter.
 const STEP: u32 = 1;
+
+// By how much the deduction rises and the passes, where an add was shared by all the places and where it was not.
+fn cost(shared: Option<u64>, places: usize) -> (u64, usize)
+    ensures { λ r. ⌜ (r .0 ≡ valueOr shared 0) × (r .1 ≡ cond (isSome shared) places 0) ⌝ }
+{
+    match shared {
+        Some(rise) => (rise, places),
+        None => (0, 0),
+    }
+}
 
 impl SharedDeduction {
     // A counter as opened with so many places.
@@ -84,10 +96,8 @@ pub impl FrameCounter for SharedDeduction as SharedCounter {
             return Err(Refusal::CounterFull);
         }
         let weight = u64::from(weight);
-        let (rise, passes) = match places::add(&mut self.cells[0..self.places], code, weight) {
-            Some(rise) => (rise, self.places),
-            None => (0, 0),
-        };
+        let shared = places::add(&mut self.cells[0..self.places], code, weight);
+        let (rise, passes) = cost(shared, self.places);
         self.packets += 1;
         self.volume += weight;
         self.deduction += rise;
