@@ -26,6 +26,13 @@ impl Division {
         let by = u64::from(step);
         Some(Division { number, step, quotient: number / by, remainder: number % by })
     }
+
+    // How many whole steps there are.
+    pub(crate) fn quotient(&self) -> u64
+        ensures { λ r. ⌜ r ≡ now (self .entry) .quotient ⌝ }
+    {
+        self.quotient
+    }
 }
 
 pub impl fmt::Display for Division as DivisionDisplay {

@@ -18,6 +18,7 @@ const NAME_DIGITS: usize = 10;
 #[derive(Clone, Copy)]
 pub enum Kind {
     SemiOrdered,
+    SharedDeduction,
 }
 
 impl Kind {
@@ -25,6 +26,7 @@ impl Kind {
     fn named(word: &[u8]) -> Option<Kind> {
         match word {
             b"semi-ordered" => Some(Kind::SemiOrdered),
+            b"shared-deduction" => Some(Kind::SharedDeduction),
             _ => None,
         }
     }

@@ -2,13 +2,16 @@
 mod division;
 mod line;
 mod semi;
+mod shared;
 mod sheet;
 mod totals;
 
 use crate::line::Heading;
 use crate::line::Kind;
 use crate::semi::SemiWorked;
+use crate::shared::SharedWorked;
 use counter::semi::SemiOrdered;
+use counter::shared::SharedDeduction;
 use std::error::AnyError;
 use std::io;
 use std::io::Read;
@@ -18,7 +21,10 @@ use text::next_line;
 fn work(rt: &LibcRuntime, input: &[u8]) -> io::Result<()> {
     let (first, rest) = next_line(input);
     match Heading::read(first) {
-        Some(Heading { kind: Kind::SemiOrdered, places, step }) => sheet::work(rt, SemiOrdered::new(), Some((places, step)), rest),
+        Some(heading) => match heading.kind {
+            Kind::SemiOrdered => sheet::work(rt, SemiOrdered::new(), Some(heading), rest),
+            Kind::SharedDeduction => sheet::work(rt, SharedDeduction::new(), Some(heading), rest),
+        },
         None => sheet::work(rt, SemiOrdered::new(), None, rest),
     }
 }

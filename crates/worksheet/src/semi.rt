@@ -1,17 +1,17 @@
 // The working of an add to a semi-ordered counter.
 ghost use mathlib.Core.Path.{_≡_};
-ghost use Rattle.counter.specs.Line.{start};
 ghost use Rattle.counter.specs.Semi.{semiMeaning};
 ghost use Rattle.worksheet.specs.Workings.{wayOf};
 use crate::division::Division;
+use crate::division::DivisionDisplay;
 use crate::sheet::Worked;
 use counter::entry::Entry;
 use counter::semi::SemiOrdered;
 use counter::semi::calls::SemiCounter;
 use flow::code::Code;
 use flow::counter::FrameCounter;
+use std::alloc::AllocError;
 use std::io;
-use crate::division::DivisionDisplay;
 
 // How a code comes to its entry.
 #[derive(Clone, Copy)]
@@ -45,26 +45,26 @@ pub struct Before {
     start: Entry,
 }
 
+// Prints which rule applies.
 fn show_way(rt: &LibcRuntime, way: Way) -> io::Result<()> {
     match way {
-        Way::Held => println!(rt, "  the flow is held"),
-        Way::Enters => println!(rt, "  the flow is absent and the line has room: it enters"),
+        Way::Held => println!(rt, "  held: it counts from its entry"),
+        Way::Enters => println!(rt, "  absent, and the line has room: it counts from 0"),
+        Way::Evicts(_) => println!(rt, "  absent, and the line is full: it counts from the first group and step - 1"),
+    }
+}
+
+// Prints who was evicted.
+fn show_evicted(rt: &LibcRuntime, way: Way) -> io::Result<()> {
+    match way {
+        Way::Held | Way::Enters => println!(rt, "  evicted:  none"),
         Way::Evicts(first) => {
             let flow = first.code.low;
             let group = first.group;
             let remainder = first.remainder;
-            println!(rt, "  the flow is absent and the line is full: flow {flow} is evicted (group {group}, remainder {remainder})")
+            println!(rt, "  evicted:  flow {flow} (group {group}, remainder {remainder})")
         }
     }
-}
-
-// Prints one entry of the line.
-fn show_entry(rt: &LibcRuntime, step: u32, entry: &Entry) -> io::Result<()> {
-    let flow = entry.code.low;
-    let group = entry.group;
-    let remainder = entry.remainder;
-    let value = u64::from(step).saturating_mul(group).saturating_add(u64::from(remainder));
-    println!(rt, "    {flow:>10} {group:>10} {remainder:>10} {value:>14}")
 }
 
 pub impl Worked for SemiOrdered as SemiWorked {
@@ -74,31 +74,34 @@ pub impl Worked for SemiOrdered as SemiWorked {
         "semi-ordered"
     }
 
-    fn before(&self, code: Code) -> Before {
-        Before { way: way_of(self, code), start: self.start(code) }
+    fn before(&self, _rt: &LibcRuntime, code: Code) -> Result<Before, AllocError> {
+        Ok(Before { way: way_of(self, code), start: self.start(code) })
     }
 
-    fn show_add(&self, rt: &LibcRuntime, before: Before, code: Code, weight: u32) -> io::Result<()> {
+    fn show_add(&self, rt: &LibcRuntime, before: &Before, code: Code, weight: u32) -> io::Result<()> {
         show_way(rt, before.way)?;
-        let step = self.step();
-        let group = before.start.group;
-        let remainder = before.start.remainder;
-        println!(rt, "  before: group {group}, remainder {remainder}")?;
+        let Entry { group, remainder, .. } = before.start;
+        println!(rt, "  before:   group {group}, remainder {remainder}")?;
         let sum = u64::from(remainder) + u64::from(weight);
-        if let Some(division) = Division::of(sum, step) {
-            println!(rt, "  {remainder} + {weight} = {division}")?;
+        if let Some(division) = Division::of(sum, self.step()) {
+            let quotient = division.quotient();
+            let after = self.start(code);
+            let new_group = after.group;
+            let new_remainder = after.remainder;
+            println!(rt, "  division: {remainder} + {weight} = {division}")?;
+            println!(rt, "  after:    group {group} + {quotient} = {new_group}, remainder {new_remainder}")?;
         }
-        let after = self.start(code);
-        let new_group = after.group;
-        let new_remainder = after.remainder;
-        println!(rt, "  after:  group {new_group}, remainder {new_remainder}")
+        show_evicted(rt, before.way)
     }
 
     fn show_all(&self, rt: &LibcRuntime) -> io::Result<()> {
-        println!(rt, "  the line:   flow      group  remainder       estimate")?;
-        let step = self.step();
+        println!(rt, "  line:           flow      group  remainder       estimate")?;
         for entry in self.line() {
-            show_entry(rt, step, entry)?;
+            let flow = entry.code.low;
+            let group = entry.group;
+            let remainder = entry.remainder;
+            let estimate = self.estimate(entry.code);
+            println!(rt, "            {flow:>10} {group:>10} {remainder:>10} {estimate:>14}")?;
         }
         Ok(())
     }

@@ -1,10 +1,12 @@
 // The sheet as a whole: its title, a working for each packet, and the table at its end.
+use crate::line::Heading;
 use crate::line::Packet;
 use crate::line::is_blank;
 use crate::totals::Totals;
 use flow::code::Code;
 use flow::counter::FrameCounter;
 use flow::refusal::Refusal;
+use std::alloc::AllocError;
 use std::io;
 use text::next_line;
 
@@ -16,15 +18,17 @@ pub trait Worked: FrameCounter {
     // The kind, for the title.
     fn title() -> &'static str;
 
-    fn before(&self, code: Code) -> Self::Before;
+    // Notes what the working of an add of the code will need.
+    fn before(&self, rt: &LibcRuntime, code: Code) -> Result<Self::Before, AllocError>;
 
     // Prints the working of an add that was taken.
-    fn show_add(&self, rt: &LibcRuntime, before: Self::Before, code: Code, weight: u32) -> io::Result<()>;
+    fn show_add(&self, rt: &LibcRuntime, before: &Self::Before, code: Code, weight: u32) -> io::Result<()>;
 
     // Prints the whole counter.
     fn show_all(&self, rt: &LibcRuntime) -> io::Result<()>;
 }
 
+// Prints why a line was refused.
 fn show_refusal(rt: &LibcRuntime, line: u64, refusal: Refusal) -> io::Result<()> {
     let number = refusal.number();
     let words = refusal.words();
@@ -32,6 +36,7 @@ fn show_refusal(rt: &LibcRuntime, line: u64, refusal: Refusal) -> io::Result<()>
     println!(rt)
 }
 
+// Prints why a line could not be read.
 fn show_unread(rt: &LibcRuntime, line: u64, why: &str) -> io::Result<()> {
     println!(rt, "Line {line}. Not read: {why}.")?;
     println!(rt)
@@ -40,13 +45,13 @@ fn show_unread(rt: &LibcRuntime, line: u64, why: &str) -> io::Result<()> {
 // Works one packet: adds it, and prints the working or the refusal.
 fn work_packet<C: Worked>(rt: &LibcRuntime, counter: &mut C, totals: &mut Totals, line: u64, packet: Packet) -> io::Result<()> {
     let Packet { code, weight } = packet;
-    let before = counter.before(code);
+    let before = counter.before(rt, code)?;
     match counter.add(code, weight) {
         Ok(passes) => {
             let flow = code.low;
             println!(rt, "Line {line}. Flow {flow}, weight {weight}.")?;
-            counter.show_add(rt, before, code, weight)?;
-            println!(rt, "  passes: {passes}")?;
+            counter.show_add(rt, &before, code, weight)?;
+            println!(rt, "  passes:   {passes}")?;
             counter.show_all(rt)?;
             println!(rt)?;
             totals.add(code, weight)?;
@@ -57,9 +62,9 @@ fn work_packet<C: Worked>(rt: &LibcRuntime, counter: &mut C, totals: &mut Totals
 }
 
 // Opens the counter as the heading asks, and prints the title.
-fn work_heading<C: Worked>(rt: &LibcRuntime, counter: &mut C, sizes: Option<(u32, u32)>) -> io::Result<()> {
-    match sizes {
-        Some((places, step)) => {
+fn work_heading<C: Worked>(rt: &LibcRuntime, counter: &mut C, heading: Option<Heading>) -> io::Result<()> {
+    match heading {
+        Some(Heading { places, step, .. }) => {
             if let Err(refusal) = counter.open(places as usize, step) {
                 show_refusal(rt, 1, refusal)?;
             }
@@ -99,8 +104,8 @@ fn work_line<C: Worked>(rt: &LibcRuntime, counter: &mut C, totals: &mut Totals, 
 }
 
 // Works the sheet: the heading, each line behind it, and the table at the end.
-pub(crate) fn work<C: Worked + Drop>(rt: &LibcRuntime, mut counter: C, sizes: Option<(u32, u32)>, rest: &[u8]) -> io::Result<()> {
-    work_heading(rt, &mut counter, sizes)?;
+pub(crate) fn work<C: Worked + Drop>(rt: &LibcRuntime, mut counter: C, heading: Option<Heading>, rest: &[u8]) -> io::Result<()> {
+    work_heading(rt, &mut counter, heading)?;
     let mut totals = Totals::new(rt.alloc());
     let mut rest = rest;
     let mut number: u64 = 1;

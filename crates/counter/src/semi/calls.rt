@@ -13,7 +13,7 @@ use flow::limits::MOST_STEP;
 use flow::limits::MOST_WEIGHT;
 use flow::refusal::Refusal;
 ghost use mathlib.Core.Path.{_≡_};
-ghost use Prim.Native.Nat.{_-_, _/_, _≤_};
+ghost use Prim.Native.Nat.{_-_, _/_, _≤_, _<_};
 ghost use Rattle.std.specs.Vec.{made};
 ghost use Rattle.flow.specs.Answers.{told, Unchanged};
 ghost use Rattle.flow.specs.Meanings.{addAnswer, addLeaves};
@@ -28,6 +28,18 @@ impl SemiOrdered {
         ensures { λ r. ⌜ semiMeaning .model r ≡ semiOpened 1 1 ⌝ }
     {
         SemiOrdered { places: 1, step: 1, packets: 0, volume: 0, len: 0, entries: [BLANK; MOST_PLACES] }
+    }
+
+    // Empties the counter, with so many places and this step.
+    fn reset(&mut self, places: usize, step: u32)
+        requires { ⌜ 0 < places ⌝ ∗ ⌜ places ≤ 256 ⌝ ∗ ⌜ 0 < step ⌝ ∗ ⌜ step ≤ 2097153 ⌝ }
+        ensures { λ _. ⌜ semiMeaning .model (now (self .exit)) ≡ semiOpened places step ⌝ }
+    {
+        self.places = places;
+        self.step = step;
+        self.packets = 0;
+        self.volume = 0;
+        self.len = 0;
     }
 
     // The line, lowest group first.
@@ -62,18 +74,12 @@ pub impl FrameCounter for SemiOrdered as SemiCounter {
         if step < 1 || step > MOST_STEP {
             return Err(Refusal::StepOutOfRange);
         }
-        self.places = places;
-        self.step = step;
-        self.packets = 0;
-        self.volume = 0;
-        self.len = 0;
+        self.reset(places, step);
         Ok(())
     }
 
     fn flush(&mut self) {
-        self.packets = 0;
-        self.volume = 0;
-        self.len = 0;
+        self.reset(self.places, self.step);
     }
 
     fn add(&mut self, code: Code, weight: u32) -> Result<usize, Refusal>

@@ -1,0 +1,118 @@
+// The working of an add to a shared-deduction counter.
+use crate::sheet::Worked;
+use counter::place::Place;
+use counter::shared::SharedDeduction;
+use counter::shared::calls::SharedCounter;
+use flow::code::Code;
+use flow::counter::FrameCounter;
+use std::alloc::AllocError;
+use std::io;
+
+// What the working of an add needs of the counter before it.
+#[derive(Drop)]
+pub struct Before {
+    count: u64,
+    deduction: u64,
+    places: Vec<Place>,
+}
+
+// The code's count, 0 where no place has it.
+fn count_of(counter: &SharedDeduction, code: Code) -> u64 {
+    counter.estimate(code).saturating_sub(counter.deduction())
+}
+
+// The least count of the places.
+fn least_count(places: &[Place]) -> u64 {
+    let mut least = u64::MAX;
+    for place in places {
+        if let Place::Held { count, .. } = place {
+            least = least.min(*count);
+        }
+    }
+    least
+}
+
+// Whether the place holds the code.
+fn is_of(place: &Place, code: Code) -> bool {
+    match place {
+        Place::Held { code: held, .. } => held.same(code),
+        Place::Empty => false,
+    }
+}
+
+// Prints which rule applied, and its reckoning.
+fn show_reckoning(rt: &LibcRuntime, before: &Before, weight: u32, deduction: u64) -> io::Result<()> {
+    let count = before.count;
+    let old = before.deduction;
+    if count > 0 {
+        println!(rt, "  held: its count rises")?;
+        println!(rt, "  before:   count {count}, deduction {old}")?;
+        return println!(rt, "  count:    {count} + {weight}");
+    }
+    if deduction == old {
+        println!(rt, "  absent, and a place is empty: it takes the lowest")?;
+        println!(rt, "  before:   count 0, deduction {old}")?;
+        return println!(rt, "  count:    0 + {weight}");
+    }
+    let least = least_count(&before.places);
+    let rise = deduction.saturating_sub(old);
+    println!(rt, "  absent, and no place is empty: all counts fall")?;
+    println!(rt, "  before:   count 0, deduction {old}")?;
+    println!(rt, "  fall:     the smaller of the weight {weight} and the least count {least} is {rise}")?;
+    println!(rt, "  deduction: {old} + {rise}; left of the weight: {weight} - {rise}")
+}
+
+// Prints the flows that had a place before and have it no more.
+fn show_evicted(rt: &LibcRuntime, before: &[Place], after: &[Place]) -> io::Result<()> {
+    let mut some = false;
+    for (old, new) in before.iter().zip(after.iter()) {
+        if let Place::Held { code, .. } = old {
+            if !is_of(new, *code) {
+                some = true;
+                let flow = code.low;
+                println!(rt, "  evicted:  flow {flow}")?;
+            }
+        }
+    }
+    if some { Ok(()) } else { println!(rt, "  evicted:  none") }
+}
+
+pub impl Worked for SharedDeduction as SharedWorked {
+    type Before = Before;
+
+    fn title() -> &'static str {
+        "shared-deduction"
+    }
+
+    fn before(&self, rt: &LibcRuntime, code: Code) -> Result<Before, AllocError> {
+        let places = self.held().to_vec(rt.alloc())?;
+        Ok(Before { count: count_of(self, code), deduction: self.deduction(), places })
+    }
+
+    fn show_add(&self, rt: &LibcRuntime, before: &Before, code: Code, weight: u32) -> io::Result<()> {
+        let deduction = self.deduction();
+        show_reckoning(rt, before, weight, deduction)?;
+        let count = count_of(self, code);
+        if count > 0 {
+            println!(rt, "  after:    count {count}, deduction {deduction}")?;
+        } else {
+            println!(rt, "  after:    no place, deduction {deduction}")?;
+        }
+        show_evicted(rt, &before.places, self.held())
+    }
+
+    fn show_all(&self, rt: &LibcRuntime) -> io::Result<()> {
+        println!(rt, "  places:         flow      count       estimate")?;
+        for place in self.held() {
+            match place {
+                Place::Empty => println!(rt, "                 empty")?,
+                Place::Held { code, count } => {
+                    let flow = code.low;
+                    let estimate = self.estimate(*code);
+                    println!(rt, "            {flow:>10} {count:>10} {estimate:>14}")?;
+                }
+            }
+        }
+        Ok(())
+    }
+}
