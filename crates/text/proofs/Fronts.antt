@@ -4,9 +4,10 @@ use mathlib.Core.Bool.{Bool, true, false, cond}
 use mathlib.Core.List.{List, [], _∷_}
 use Prim.Native.Nat.{ℕ, _+_, _-_, _≤_, _<_}
 use native.Mathlib.Omega.{arith}
+use lib.Dec.{eqb}
 use lib.ListN.{length, getD, take, drop, length-drop}
 use Rattle.std.proofs.shelf.Lists.{at-drop-more, at-drop-all, drop-all, drop-drop, nil-from-length, take-rest}
-use Rattle.std.proofs.shelf.Tests.{cond-true, cond-false}
+use Rattle.std.proofs.shelf.Tests.{cond-true, cond-false, eqb-false}
 use Rattle.text.specs.Reading.{front, inLine, afterLine}
 
 pub front-le : (p : ℕ → Bool) (bs : List ℕ) → front p bs ≤ length bs
@@ -40,3 +41,7 @@ after-one bs rest n e = take-rest rest 1 ∙ ap (drop 1) e ∙ drop-drop 1 n bs
 -- what follows a line is shorter
 pub after-shorter : (bs : List ℕ) → 0 < length bs → length (afterLine bs) < length bs
 after-shorter bs l = omega (arith, length-drop (front inLine bs + 1) bs)
+
+-- a loop over the lines of a text falls
+pub after-falls : (bs rest : List ℕ) → rest ≡ afterLine bs → false ≡ eqb (length bs) 0 → length rest < length bs
+after-falls bs rest e f = omega (arith, ap length e, after-shorter bs (omega (arith, eqb-false (length bs) 0 (sym f))))

@@ -1,7 +1,6 @@
 // Lines, words and numbers of a text input.
 ghost use mathlib.Core.Path.{_≡_};
-ghost use Prim.Native.Nat.{_-_, _^_, _≤_, min};
-ghost use lib.ListN.{length};
+ghost use Prim.Native.Nat.{_+_, _-_, _*_, _^_, min};
 ghost use Rattle.std.specs.Options.{Cases as BySome};
 ghost use Rattle.std.specs.Reads.{value, Numeral};
 ghost use Rattle.text.specs.Reading.{isSpace, inLine, inWord, front, lineOf, afterLine, wordOf, afterWord};
@@ -15,12 +14,19 @@ fn is_space(b: u8) -> bool
     b == b' ' || b == b'\t' || b == b'\r'
 }
 
+// Whether a byte belongs to a line: any but a newline does.
+fn is_in_line(b: u8) -> bool
+    ensures { λ r. ⌜ r ≡ inLine b ⌝ }
+{
+    b != NEWLINE
+}
+
 // How many bytes come before the first newline.
 fn line_length(text: &[u8]) -> usize
     ensures { λ r. ⌜ r ≡ front inLine (now (text .entry)) ⌝ }
 {
     for (i, b) in text.iter().enumerate() {
-        if *b == NEWLINE {
+        if !is_in_line(*b) {
             return i;
         }
     }
@@ -72,6 +78,13 @@ pub fn next_word(line: &[u8]) -> (&[u8], &[u8])
     rest.split_at(word_length(rest))
 }
 
+// The number with one more digit behind it, or the greatest of its type where that is larger.
+fn with_digit(n: u64, digit: u8) -> u64
+    ensures { λ r. ⌜ r ≡ min (min (n * 10) (2 ^ 64 - 1) + digit) (2 ^ 64 - 1) ⌝ }
+{
+    n.saturating_mul(10).saturating_add(u64::from(digit))
+}
+
 // The number that a word of digits writes, or the greatest of its type where it is larger. None for any other word.
 pub fn number(word: &[u8]) -> Option<u64>
     ensures { λ r. ⌜ BySome r (Numeral 10 (now (word .entry)) → ⊥) (λ n. Numeral 10 (now (word .entry)) × (n ≡ min (value 10 (now (word .entry))) (2 ^ 64 - 1))) ⌝ }
@@ -84,7 +97,7 @@ pub fn number(word: &[u8]) -> Option<u64>
         if *b < b'0' || *b > b'9' {
             return None;
         }
-        n = n.saturating_mul(10).saturating_add(u64::from(*b - b'0'));
+        n = with_digit(n, *b - b'0');
     }
     Some(n)
 }

@@ -32,25 +32,32 @@ impl Kind {
     }
 }
 
-// The counter that a heading asks for.
+// What a heading asks for, as far as it can be read.
 #[derive(Clone, Copy)]
 pub struct Heading {
-    pub kind: Kind,
-    pub places: u32,
-    pub step: u32,
+    pub kind: Option<Kind>,
+    pub sizes: Option<(u32, u32)>,
 }
 
 impl Heading {
-    // The heading of a line: a kind, the places and the step.
-    pub(crate) fn read(line: &[u8]) -> Option<Heading> {
-        let (kind, rest) = next_word(line);
-        let (places, rest) = next_word(rest);
-        let (step, rest) = next_word(rest);
-        if !is_blank(rest) {
-            return None;
+    // The heading of a line: a kind, the places and the step. A line that begins with no kind has none of them.
+    pub(crate) fn read(line: &[u8]) -> Heading {
+        let (word, rest) = next_word(line);
+        match Kind::named(word) {
+            Some(kind) => Heading { kind: Some(kind), sizes: read_sizes(rest) },
+            None => Heading { kind: None, sizes: None },
         }
-        Some(Heading { kind: Kind::named(kind)?, places: small_number(places)?, step: small_number(step)? })
     }
+}
+
+// The places and the step, where the line has both and no more.
+fn read_sizes(line: &[u8]) -> Option<(u32, u32)> {
+    let (places, rest) = next_word(line);
+    let (step, rest) = next_word(rest);
+    if !is_blank(rest) {
+        return None;
+    }
+    Some((small_number(places)?, small_number(step)?))
 }
 
 // Why a line is no packet.

@@ -4,7 +4,7 @@ ghost use Rattle.counter.specs.Semi.{semiMeaning};
 ghost use Rattle.worksheet.specs.Workings.{wayOf};
 use crate::division::Division;
 use crate::division::DivisionDisplay;
-use crate::sheet::Worked;
+use crate::worked::Worked;
 use counter::entry::Entry;
 use counter::semi::SemiOrdered;
 use counter::semi::calls::SemiCounter;

@@ -1,5 +1,5 @@
 // The working of an add to a shared-deduction counter.
-use crate::sheet::Worked;
+use crate::worked::Worked;
 use counter::place::Place;
 use counter::shared::SharedDeduction;
 use counter::shared::calls::SharedCounter;
@@ -41,25 +41,25 @@ fn is_of(place: &Place, code: Code) -> bool {
 }
 
 // Prints which rule applied, and its reckoning.
-fn show_reckoning(rt: &LibcRuntime, before: &Before, weight: u32, deduction: u64) -> io::Result<()> {
-    let count = before.count;
-    let old = before.deduction;
-    if count > 0 {
+fn show_reckoning(rt: &LibcRuntime, before: &Before, weight: u32, count: u64, deduction: u64) -> io::Result<()> {
+    let old = before.count;
+    let from = before.deduction;
+    if old > 0 {
         println!(rt, "  held: its count rises")?;
-        println!(rt, "  before:   count {count}, deduction {old}")?;
-        return println!(rt, "  count:    {count} + {weight}");
-    }
-    if deduction == old {
+    } else if deduction == from {
         println!(rt, "  absent, and a place is empty: it takes the lowest")?;
-        println!(rt, "  before:   count 0, deduction {old}")?;
-        return println!(rt, "  count:    0 + {weight}");
+    } else {
+        println!(rt, "  absent, and no place is empty: all counts fall")?;
+    }
+    println!(rt, "  before:   count {old}, deduction {from}")?;
+    if deduction == from {
+        return println!(rt, "  count:    {old} + {weight} = {count}");
     }
     let least = least_count(&before.places);
-    let rise = deduction.saturating_sub(old);
-    println!(rt, "  absent, and no place is empty: all counts fall")?;
-    println!(rt, "  before:   count 0, deduction {old}")?;
-    println!(rt, "  fall:     the smaller of the weight {weight} and the least count {least} is {rise}")?;
-    println!(rt, "  deduction: {old} + {rise}; left of the weight: {weight} - {rise}")
+    let fall = deduction.saturating_sub(from);
+    let left = u64::from(weight).saturating_sub(fall);
+    println!(rt, "  fall:     the smaller of the weight {weight} and the least count {least} is {fall}")?;
+    println!(rt, "  shared:   deduction {from} + {fall} = {deduction}, left of the weight {weight} - {fall} = {left}")
 }
 
 // Prints the flows that had a place before and have it no more.
@@ -91,8 +91,8 @@ pub impl Worked for SharedDeduction as SharedWorked {
 
     fn show_add(&self, rt: &LibcRuntime, before: &Before, code: Code, weight: u32) -> io::Result<()> {
         let deduction = self.deduction();
-        show_reckoning(rt, before, weight, deduction)?;
         let count = count_of(self, code);
+        show_reckoning(rt, before, weight, count, deduction)?;
         if count > 0 {
             println!(rt, "  after:    count {count}, deduction {deduction}")?;
         } else {

@@ -1,45 +1,90 @@
-// The sheet as a whole: its title, a working for each packet, and the table at its end.
+// A sheet: its title, a working for each packet, and the table at its end.
 use crate::line::Heading;
+use crate::line::Kind;
 use crate::line::Packet;
 use crate::line::is_blank;
+use crate::semi::SemiWorked;
+use crate::shared::SharedWorked;
 use crate::totals::Totals;
-use flow::code::Code;
+use crate::worked::Worked;
+use counter::semi::SemiOrdered;
+use counter::shared::SharedDeduction;
 use flow::counter::FrameCounter;
 use flow::refusal::Refusal;
-use std::alloc::AllocError;
 use std::io;
-use text::next_line;
 
-// A counter whose adds can be shown step by step.
-pub trait Worked: FrameCounter {
-    // What the working of an add needs of the counter before it.
-    type Before: Drop;
+// A sheet of a kind, with a counter of each kind, of which it uses its own, and the true volumes of its flows.
+#[derive(Drop)]
+pub struct Sheet {
+    kind: Kind,
+    semi: SemiOrdered,
+    shared: SharedDeduction,
+    totals: Totals,
+}
 
-    // The kind, for the title.
-    fn title() -> &'static str;
+impl Sheet {
+    // Begins a sheet: opens its counter as the heading asks, and prints the title.
+    // A heading with no kind has a semi-ordered counter.
+    pub(crate) fn begin(rt: &LibcRuntime, line: u64, heading: Heading) -> io::Result<Sheet> {
+        let kind = heading.kind.unwrap_or(Kind::SemiOrdered);
+        let mut semi = SemiOrdered::new();
+        let mut shared = SharedDeduction::new();
+        match kind {
+            Kind::SemiOrdered => open(rt, &mut semi, line, heading.sizes)?,
+            Kind::SharedDeduction => open(rt, &mut shared, line, heading.sizes)?,
+        }
+        Ok(Sheet { kind, semi, shared, totals: Totals::new(rt.alloc()) })
+    }
 
-    // Notes what the working of an add of the code will need.
-    fn before(&self, rt: &LibcRuntime, code: Code) -> Result<Self::Before, AllocError>;
+    // Works a line behind the heading. A blank line is passed over.
+    pub(crate) fn work_line(&mut self, rt: &LibcRuntime, number: u64, line: &[u8]) -> io::Result<()> {
+        if is_blank(line) {
+            return Ok(());
+        }
+        match Packet::read(line) {
+            Ok(packet) => match self.kind {
+                Kind::SemiOrdered => work_packet(rt, &mut self.semi, &mut self.totals, number, packet),
+                Kind::SharedDeduction => work_packet(rt, &mut self.shared, &mut self.totals, number, packet),
+            },
+            Err(unread) => show_unread(rt, number, unread.words()),
+        }
+    }
 
-    // Prints the working of an add that was taken.
-    fn show_add(&self, rt: &LibcRuntime, before: &Self::Before, code: Code, weight: u32) -> io::Result<()>;
-
-    // Prints the whole counter.
-    fn show_all(&self, rt: &LibcRuntime) -> io::Result<()>;
+    // Ends the sheet with the table of its flows.
+    pub(crate) fn end(&self, rt: &LibcRuntime) -> io::Result<()> {
+        match self.kind {
+            Kind::SemiOrdered => show_totals(rt, &self.semi, &self.totals),
+            Kind::SharedDeduction => show_totals(rt, &self.shared, &self.totals),
+        }
+    }
 }
 
 // Prints why a line was refused.
 fn show_refusal(rt: &LibcRuntime, line: u64, refusal: Refusal) -> io::Result<()> {
     let number = refusal.number();
     let words = refusal.words();
-    println!(rt, "Line {line}. Refused ({number}): {words}.")?;
-    println!(rt)
+    println!(rt, "Line {line}. Refused ({number}): {words}.\n")
 }
 
 // Prints why a line could not be read.
 fn show_unread(rt: &LibcRuntime, line: u64, why: &str) -> io::Result<()> {
-    println!(rt, "Line {line}. Not read: {why}.")?;
-    println!(rt)
+    println!(rt, "Line {line}. Not read: {why}.\n")
+}
+
+// Opens the counter with these places and step, and prints the title.
+fn open<C: Worked>(rt: &LibcRuntime, counter: &mut C, line: u64, sizes: Option<(u32, u32)>) -> io::Result<()> {
+    match sizes {
+        Some((places, step)) => {
+            if let Err(refusal) = counter.open(places as usize, step) {
+                show_refusal(rt, line, refusal)?;
+            }
+        }
+        None => show_unread(rt, line, "a heading is a kind of counter, its places and its step")?,
+    }
+    let title = C::title();
+    let places = counter.places();
+    let step = counter.step();
+    println!(rt, "Worked sheet: {title} counter, places {places}, step {step}\n")
 }
 
 // Works one packet: adds it, and prints the working or the refusal.
@@ -61,23 +106,6 @@ fn work_packet<C: Worked>(rt: &LibcRuntime, counter: &mut C, totals: &mut Totals
     }
 }
 
-// Opens the counter as the heading asks, and prints the title.
-fn work_heading<C: Worked>(rt: &LibcRuntime, counter: &mut C, heading: Option<Heading>) -> io::Result<()> {
-    match heading {
-        Some(Heading { places, step, .. }) => {
-            if let Err(refusal) = counter.open(places as usize, step) {
-                show_refusal(rt, 1, refusal)?;
-            }
-        }
-        None => show_unread(rt, 1, "the first line is a kind of counter, its places and its step")?,
-    }
-    let title = C::title();
-    let places = counter.places();
-    let step = counter.step();
-    println!(rt, "Worked sheet: {title} counter, {places} places, step {step}")?;
-    println!(rt)
-}
-
 // Prints each flow's estimate beside its true volume.
 fn show_totals<C: Worked>(rt: &LibcRuntime, counter: &C, totals: &Totals) -> io::Result<()> {
     println!(rt, "      flow       estimate    true volume")?;
@@ -89,31 +117,5 @@ fn show_totals<C: Worked>(rt: &LibcRuntime, counter: &C, totals: &Totals) -> io:
     }
     let packets = counter.packets();
     let volume = counter.volume();
-    println!(rt, "packets {packets}, volume {volume}")
-}
-
-// Works one line behind the heading. A blank line is passed over.
-fn work_line<C: Worked>(rt: &LibcRuntime, counter: &mut C, totals: &mut Totals, number: u64, line: &[u8]) -> io::Result<()> {
-    if is_blank(line) {
-        return Ok(());
-    }
-    match Packet::read(line) {
-        Ok(packet) => work_packet(rt, counter, totals, number, packet),
-        Err(unread) => show_unread(rt, number, unread.words()),
-    }
-}
-
-// Works the sheet: the heading, each line behind it, and the table at the end.
-pub(crate) fn work<C: Worked + Drop>(rt: &LibcRuntime, mut counter: C, heading: Option<Heading>, rest: &[u8]) -> io::Result<()> {
-    work_heading(rt, &mut counter, heading)?;
-    let mut totals = Totals::new(rt.alloc());
-    let mut rest = rest;
-    let mut number: u64 = 1;
-    while !rest.is_empty() {
-        let (line, after) = next_line(rest);
-        number = number.saturating_add(1);
-        rest = after;
-        work_line(rt, &mut counter, &mut totals, number, line)?;
-    }
-    show_totals(rt, &counter, &totals)
+    println!(rt, "packets {packets}, volume {volume}\n")
 }
