@@ -6,8 +6,8 @@ use Prim.Native.Nat.{ℕ}
 use lib.Dec.{ltb}
 use lib.ListN.{length}
 use Rattle.flow.specs.declared.code.Code.{Code}
-use Rattle.counter.specs.Line.{holds}
-use Rattle.counter.specs.declared.entry.Entry.{Entry}
+use Rattle.semi.specs.Line.{holds}
+use Rattle.semi.specs.declared.entry.Entry.{Entry}
 use Rattle.worksheet.specs.declared.semi.Way.{Way}
 use Rattle.worksheet.specs.declared.semi.Way.the-variants.{Held, Enters, Evicts}
 

@@ -1,13 +1,13 @@
 // The working of an add to a semi-ordered counter.
 ghost use mathlib.Core.Path.{_≡_};
-ghost use Rattle.counter.specs.Semi.{semiMeaning};
+ghost use Rattle.semi.specs.Semi.{semiMeaning};
 ghost use Rattle.worksheet.specs.Workings.{wayOf};
 use crate::division::Division;
 use crate::division::DivisionDisplay;
 use crate::worked::Worked;
-use counter::entry::Entry;
-use counter::semi::SemiOrdered;
-use counter::semi::calls::SemiCounter;
+use semi::Entry;
+use semi::SemiOrdered;
+use semi::SemiCounter;
 use flow::code::Code;
 use flow::counter::FrameCounter;
 use std::alloc::AllocError;

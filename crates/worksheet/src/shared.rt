@@ -1,8 +1,8 @@
 // The working of an add to a shared-deduction counter.
 use crate::worked::Worked;
-use counter::place::Place;
-use counter::shared::SharedDeduction;
-use counter::shared::calls::SharedCounter;
+use shared::Place;
+use shared::SharedDeduction;
+use shared::SharedCounter;
 use flow::code::Code;
 use flow::counter::FrameCounter;
 use std::alloc::AllocError;
