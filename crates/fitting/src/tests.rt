@@ -3,12 +3,12 @@ use crate::peaked::Peaked;
 use crate::peaked::calls::PeakedCounter;
 use crate::port::Port;
 use crate::port::PortKey;
-use semi::SemiOrdered;
-use semi::SemiCounter;
 use flow::code::Code;
 use flow::counter::FrameCounter;
 use flow::key::FlowKey;
 use flow::refusal::Refusal;
+use semi::SemiCounter;
+use semi::SemiOrdered;
 use std::test::*;
 
 // The code of a port as it stands on a tape.

@@ -1,14 +1,14 @@
 -- What an answered open or add says of its arguments.
 use mathlib.Core.Path.{_≡_, sym, _∙_}
-use mathlib.Core.Bool.{true, false, cond, _||_}
+use mathlib.Core.Bool.{false}
 use mathlib.Core.Logic.{inl, inr}
 use Prim.Native.Nat.{ℕ, _≤_}
 use native.Mathlib.Omega.{arith}
-use lib.Dec.{eqb, ltb}
+use lib.Dec.{eqb}
 use Rattle.std.proofs.shelf.Tests.{cases-bool, cond-true, cond-false}
 use Rattle.std.proofs.shelf.Ways.{tells}
 use Rattle.flow.specs.declared.code.Code.{Code}
-use Rattle.flow.specs.Answers.{Answer, answered, refused}
+use Rattle.flow.specs.Answers.{answered, refused}
 use Rattle.flow.specs.Limits.{mostPlaces, mostWeight, mostPackets, outside}
 use Rattle.flow.specs.Meanings.{Meaning, openAnswer, addAnswer}
 
@@ -22,15 +22,19 @@ module _ {C : Type 0} (m : Meaning C) (x : m .Model) where
   pub opens-inside : (n s : ℕ) → openAnswer m x n s ≡ answered tt → ((1 ≤ n) × (n ≤ mostPlaces)) × ((1 ≤ s) × (s ≤ m .greatest x))
   opens-inside n s e =
       elim (cases-bool (outside 1 mostPlaces n)) [
-        inl b ↦ absurd (refused-not 1 tt (sym (cond-true _ _ _ b) ∙ e))
-      | inr b ↦ elim (cases-bool (outside 1 (m .greatest x) s)) [
-          inl d ↦ absurd (refused-not 2 tt (sym (cond-true _ _ _ d) ∙ (sym (cond-false _ _ _ b) ∙ e)))
-        | inr d ↦ (inside 1 mostPlaces n b, inside 1 (m .greatest x) s d) ] ]
+        | inl b ↦ absurd (refused-not 1 tt (sym (cond-true _ _ _ b) ∙ e))
+        | inr b ↦ elim (cases-bool (outside 1 (m .greatest x) s)) [
+          | inl d ↦ absurd (refused-not 2 tt (sym (cond-true _ _ _ d) ∙ (sym (cond-false _ _ _ b) ∙ e)))
+          | inr d ↦ (inside 1 mostPlaces n b, inside 1 (m .greatest x) s d)
+        ]
+      ]
 
   pub adds-inside : (k : Code) (w p : ℕ) → addAnswer m x k w ≡ answered p → ((1 ≤ w) × (w ≤ mostWeight)) × (m .packets x ≡ mostPackets → ⊥)
   adds-inside k w p e =
       elim (cases-bool (outside 1 mostWeight w)) [
-        inl b ↦ absurd (refused-not 3 p (sym (cond-true _ _ _ b) ∙ e))
-      | inr b ↦ elim (cases-bool (eqb (m .packets x) mostPackets)) [
-          inl d ↦ absurd (refused-not 4 p (sym (cond-true _ _ _ d) ∙ (sym (cond-false _ _ _ b) ∙ e)))
-        | inr d ↦ (inside 1 mostWeight w b, λ q. grind (arith, tells)) ] ]
+        | inl b ↦ absurd (refused-not 3 p (sym (cond-true _ _ _ b) ∙ e))
+        | inr b ↦ elim (cases-bool (eqb (m .packets x) mostPackets)) [
+          | inl d ↦ absurd (refused-not 4 p (sym (cond-true _ _ _ d) ∙ (sym (cond-false _ _ _ b) ∙ e)))
+          | inr d ↦ (inside 1 mostWeight w b, λ q. grind (arith, tells))
+        ]
+      ]

@@ -4,7 +4,7 @@ use mathlib.Core.Bool.{Bool, true, false}
 use mathlib.Core.HLevel.{isProp→PathP}
 use native.Mathlib.Bridge.{le-prop}
 use native.Mathlib.Nat.{ℕ-set}
-use Prim.Native.Nat.{ℕ, _<_, _≤_, _-_, _%_, _^_}
+use Prim.Native.Nat.{_<_, _≤_, _-_, _%_, _^_}
 use Rattle.std.specs.Orderings.{When}
 use Rattle.std.specs.declared.result.Result.{Result}
 use Rattle.std.specs.declared.result.Result.the-variants.{Ok}
@@ -18,16 +18,18 @@ use Rattle.flow.specs.declared.prefix.Prefix.{Prefix}
 
 pub same-prefix : (x k : Prefix) → x .address ≡ k .address → x .len ≡ k .len → x ≡ k
 same-prefix x k p q = λ i. record {
-    address = p i;
-    len = q i;
-    fits = isProp→PathP (λ j. p j < 2 ^ 32) (λ j. le-prop) (x .fits) (k .fits) i;
-    short = isProp→PathP (λ j. q j ≤ 32) (λ j. le-prop) (x .short) (k .short) i;
-    lawful = isProp→PathP (λ j. p j % 2 ^ (32 - q j) ≡ 0) (λ j. ℕ-set _ _) (x .lawful) (k .lawful) i }
+  address = p i;
+  len = q i;
+  fits = isProp→PathP (λ j. p j < 2 ^ 32) (λ j. le-prop) (x .fits) (k .fits) i;
+  short = isProp→PathP (λ j. q j ≤ 32) (λ j. le-prop) (x .short) (k .short) i;
+  lawful = isProp→PathP (λ j. p j % 2 ^ (32 - q j) ≡ 0) (λ j. ℕ-set _ _) (x .lawful) (k .lawful) i;
+}
 
 pub same-account : (x k : Account) → x .number ≡ k .number → x ≡ k
 same-account x k p = λ i. record {
-    number = p i;
-    short = isProp→PathP (λ j. p j < 10 ^ 10) (λ j. le-prop) (x .short) (k .short) i }
+  number = p i;
+  short = isProp→PathP (λ j. p j < 10 ^ 10) (λ j. le-prop) (x .short) (k .short) i;
+}
 
 -- keys are the same where their codes are, if no two keys share a code
 pub keys-tell : {K : Type 0} (coded : K → Code) → ((j k : K) → coded j ≡ coded k → j ≡ k) → (r : Bool) (a b : K) → r ≡ same (coded a) (coded b) → When r (a ≡ b) (a ≡ b → ⊥)

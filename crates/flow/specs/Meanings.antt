@@ -16,7 +16,7 @@
 --   sumOf        the sum of a function over a list
 --   Distinct     no two elements of a list are equal
 use mathlib.Core.Path.{_≡_}
-use mathlib.Core.Bool.{Bool, cond}
+use mathlib.Core.Bool.{cond}
 use mathlib.Core.Logic.{_⊎_}
 use mathlib.Core.List.{List, [], _∷_}
 use Prim.Native.Nat.{ℕ, _+_, _-_, _*_, _<_, _≤_}
@@ -100,11 +100,11 @@ module _ {C : Type 0} (m : Meaning C) where
 
   abbrev pub Adds : Type 0
   Adds = (x : m .Model) (k : Code) (w : ℕ) → m .sound x → addAnswer x k w ≡ answered (m .passes x k w) →
-    Grown x k w (m .added x k w) × (m .passes x k w ≤ m .places x)
+      Grown x k w (m .added x k w) × (m .passes x k w ≤ m .places x)
 
   abbrev pub Heavy : Type 0
   Heavy = (x : m .Model) → m .sound x → (l : ℕ) (codes : List Code) → bound x < m .places x * l → Distinct codes →
-    Every (λ k. l ≤ m .estimate x k) codes → sumOf (m .estimate x) codes ≤ bound x
+      Every (λ k. l ≤ m .estimate x k) codes → sumOf (m .estimate x) codes ≤ bound x
 
   abbrev pub Steps : Type 0
   Steps = (x : m .Model) → (1 ≤ m .greatest x) × (m .greatest x ≤ mostStep)

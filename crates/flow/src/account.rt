@@ -31,7 +31,10 @@ pub impl FlowKey for Account as AccountKey {
     }
 
     fn code(&self) -> Code {
-        Code { high: 0, low: self.number }
+        Code {
+            high: 0,
+            low: self.number,
+        }
     }
 
     fn of_code(code: Code) -> Result<Self, Refusal> {

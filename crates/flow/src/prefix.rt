@@ -42,7 +42,10 @@ pub impl FlowKey for Prefix as PrefixKey {
     }
 
     fn code(&self) -> Code {
-        Code { high: u64::from(self.len), low: u64::from(self.address) }
+        Code {
+            high: u64::from(self.len),
+            low: u64::from(self.address),
+        }
     }
 
     fn of_code(code: Code) -> Result<Self, Refusal> {

@@ -47,12 +47,12 @@ pub lawful-placed : (n s t v w : ℕ) (e : Entry) (xs : List Entry) → length x
     holds (e .code) xs ≡ false → e .remainder < s → s * e .group + total s xs ≤ (v + w) + t * (s - 1) →
     Lawful n s (t + 1) (v + w) (placed e xs)
 lawful-placed n s t v w e xs few ri di sm h r sum = record {
-    few = omega (arith, length-placed e xs);
-    rising = rising-placed e xs ri;
-    distinct = distinct-placed e xs h di;
-    small = small-placed s e xs r sm;
-    sum = omega (arith, total-placed s e xs, slack-more t s);
-  }
+  few = omega (arith, length-placed e xs);
+  rising = rising-placed e xs ri;
+  distinct = distinct-placed e xs h di;
+  small = small-placed s e xs r sm;
+  sum = omega (arith, total-placed s e xs, slack-more t s);
+}
 
 -- an add is one of four: a held code whose group stays, one that moves, an absent one that finds room, and one that does not
 pub by-step : (n s : ℕ) (line : List Entry) (k : Code) (w : ℕ) (P : List Entry → Type 0) →
@@ -66,7 +66,7 @@ by-step n s line k w P stay move enter evict =
     cond-both (holds k line && eqb (e .group) (start n s line k .group)) (replaced e line) (placed e (others n line k)) P
     (λ q. let b = and-parts _ _ q in stay (b .0) (eqb-true _ _ (b .1)))
     (λ _. cond-both (holds k line) (without k line) (cond (ltb (length line) n) line (rest line)) (λ xs. P (placed e xs)) move
-      (λ h. cond-both (ltb (length line) n) line (rest line) (λ xs. P (placed e xs)) (λ q. enter h (ltb-true _ _ q)) (λ q. evict h (ltb-false _ _ q))))
+    (λ h. cond-both (ltb (length line) n) line (rest line) (λ xs. P (placed e xs)) (λ q. enter h (ltb-true _ _ q)) (λ q. evict h (ltb-false _ _ q))))
 
 -- the three steps, and a held code whose group stays
 
@@ -77,12 +77,12 @@ module _ (n s t v w : ℕ) (line : List Entry) (k : Code) (step : 0 < s) (l : La
   stays : holds k line ≡ true → raised s w k (start n s line k) .group ≡ start n s line k .group →
       Lawful n s (t + 1) (v + w) (replaced (raised s w k (start n s line k)) line)
   stays h q = record {
-      few = omega (arith, length-replaced (raised s w k (start n s line k)) line, l .few);
-      rising = rising-replaced (raised s w k (start n s line k)) line (entering n s line k) h q (l .rising);
-      distinct = distinct-replaced (raised s w k (start n s line k)) line (l .distinct);
-      small = small-replaced s (raised s w k (start n s line k)) line (small-raised s w k (start n s line k) step) (l .small);
-      sum = omega (arith, total-replaced s (raised s w k (start n s line k)) line (entering n s line k) q, slack-more t s, l .sum);
-    }
+    few = omega (arith, length-replaced (raised s w k (start n s line k)) line, l .few);
+    rising = rising-replaced (raised s w k (start n s line k)) line (entering n s line k) h q (l .rising);
+    distinct = distinct-replaced (raised s w k (start n s line k)) line (l .distinct);
+    small = small-replaced s (raised s w k (start n s line k)) line (small-raised s w k (start n s line k) step) (l .small);
+    sum = omega (arith, total-replaced s (raised s w k (start n s line k)) line (entering n s line k) q, slack-more t s, l .sum);
+  }
 
   moves : holds k line ≡ true → Lawful n s (t + 1) (v + w) (placed (raised s w k (start n s line k)) (without k line))
   moves h =

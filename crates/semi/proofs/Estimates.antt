@@ -64,7 +64,7 @@ module _ (n s t v w : ℕ) (line : List Entry) (j : Code) (some : 0 < n) (step :
           held = λ d f m. entryOf-replaced-other j e line d apart ∙ entryOf-held j line d f (sym (holds-replaced j e line) ∙ m);
           room = λ m r. absent-room (sym (holds-replaced j e line) ∙ m) (omega (arith, length-replaced e line));
           full = λ m r. absent-full (sym (holds-replaced j e line) ∙ m) _
-            (least-first (firstGroup line) (replaced e line) (omega arith)
+              (least-first (firstGroup line) (replaced e line) (omega arith)
               (atLeast-replaced (firstGroup line) e line (omega (arith, q, atLeast-entryOf (firstGroup line) k line (entering n s line k) (first-least line (l .rising)) h)) (first-least line (l .rising))));
         }
 
@@ -77,7 +77,7 @@ module _ (n s t v w : ℕ) (line : List Entry) (j : Code) (some : 0 < n) (step :
           held = λ d f m. entryOf-placed-other j e (without k line) d apart ∙ entryOf-without j k line d apart ∙ entryOf-held j line d f (sym same-holds ∙ m);
           room = λ m r. absent-room (sym same-holds ∙ m) (omega (arith, length-placed e (without k line), length-without k line h));
           full = λ m r. absent-full (sym same-holds ∙ m) _
-            (least-first (firstGroup line) (placed e (without k line)) (omega arith)
+              (least-first (firstGroup line) (placed e (without k line)) (omega arith)
               (atLeast-placed (firstGroup line) e (without k line) g (atLeast-without (firstGroup line) k line (first-least line (l .rising)))));
         }
 
@@ -98,14 +98,15 @@ module _ (n s t v w : ℕ) (line : List Entry) (j : Code) (some : 0 < n) (step :
         let z : start n s line k ≡ record { code = k; group = firstGroup line; remainder = s - 1 } = grind (arith, entryOf-absent k line (entering n s line k) h) in
         let g : firstGroup line ≤ raised s w k (start n s line k) .group = omega (arith, rises s w k (start n s line k), ap (λ (x : Entry). x .group) z) in
         let up : firstGroup line ≤ firstGroup (placed (raised s w k (start n s line k)) (rest line)) =
-              least-first (firstGroup line) (placed e (rest line)) (omega (arith, length-placed e (rest line)))
-              (atLeast-placed (firstGroup line) e (rest line) g (atLeast-rest (firstGroup line) line (first-least line (l .rising)))) in
+        least-first (firstGroup line) (placed e (rest line)) (omega (arith, length-placed e (rest line)))
+        (atLeast-placed (firstGroup line) e (rest line) g (atLeast-rest (firstGroup line) line (first-least line (l .rising)))) in
         record {
           held = λ d f m. entryOf-placed-other j e (rest line) d apart ∙ entryOf-rest j line d f (l .distinct) (sym same-holds ∙ m);
           room = λ m r. absurd (omega (arith, length-placed e (rest line), rest-lawful s line (omega arith) .2));
           full = λ m r. elim (cases-bool (holds j line)) [
-              inl y ↦ omega (arith, only-first s j line (entering n s line j) (l .small) y (sym same-holds ∙ m), mul-le-mul-left s up)
-            | inr y ↦ absent-full y _ up ];
+            | inl y ↦ omega (arith, only-first s j line (entering n s line j) (l .small) y (sym same-holds ∙ m), mul-le-mul-left s up)
+            | inr y ↦ absent-full y _ up
+          ];
         }
 
     pub other-added : Other n s line j (added n s line k w)
@@ -127,11 +128,11 @@ pub other-from : (n s t v : ℕ) (line line′ : List Entry) (j : Code) → Lawf
     Rises n (v + t * (s - 1)) (estimate n s line j) (estimate n s line′ j)
 other-from n s t v line line′ j l o =
     elim (cases-bool (holds j line′)) [
-      inl y ↦ inl (ap (value s) (o .held _ _ y))
-    | inr y ↦ elim (cases-lt (length line′) n) [
-        inl q ↦ inl (estimate-room n s line′ j y q ∙ sym (o .room y q))
-      | inr q ↦ let e = estimate-full n s line′ j y q in
-          inr (rw e (o .full y q), rw e (full-bound n s t v line′ l q))
+      | inl y ↦ inl (ap (value s) (o .held _ _ y))
+      | inr y ↦ elim (cases-lt (length line′) n) [
+        | inl q ↦ inl (estimate-room n s line′ j y q ∙ sym (o .room y q))
+        | inr q ↦ let e = estimate-full n s line′ j y q in
+            inr (rw e (o .full y q), rw e (full-bound n s t v line′ l q))
       ]
     ]
 

@@ -1,5 +1,5 @@
 -- The memory of a counter and its line.
-use mathlib.Core.Path.{_∙_, _≡_, ap, subst, sym}
+use mathlib.Core.Path.{_≡_, ap, subst, sym}
 use mathlib.Core.Bool.{true}
 use mathlib.Core.List.{List}
 use Prim.Native.Nat.{_*_, _+_, _-_, _<_, _^_, _≤_, ℕ}
@@ -8,7 +8,6 @@ use native.Mathlib.Nat.{mul-le-mul}
 use lib.ListN.{length, length-take, take}
 use Rattle.semi.proofs.Adding.{added-lawful}
 use Rattle.semi.proofs.Orders.{orderly-from, orderly-test}
-use Rattle.flow.proofs.Fronts.{front-is}
 use Rattle.semi.proofs.Steps.{value-start}
 use Rattle.semi.specs.Line.{Lawful, added, orderly, start, total, value}
 use Rattle.semi.specs.declared.entry.Entry.{Entry}
@@ -44,5 +43,9 @@ lawful c = held-lawful _ _ _ _ _ _ (c .«len_in») (c .order) (c .sum)
 -- what a code counts from is small
 pub start-fits : (c : SemiOrdered) (k : Code) (e : Entry) → e ≡ start (c .places) (c .step) (take (c .len) (c .entries)) k → c .step * e .group + e .remainder < 2 ^ 48
 start-fits c k e q =
-    omega (arith, ap (value (c .step)) q, value-start (c .places) (c .step) (c .packets) (c .volume) (take (c .len) (c .entries)) k (c .«places_in» .0) (c .«step_in» .0) (lawful c),
-      total-fits _ _ _ _ _ (c .«step_in» .1) (c .«packets_in» .0) (c .«packets_in» .1) (lawful c))
+    omega (
+      arith,
+      ap (value (c .step)) q,
+      value-start (c .places) (c .step) (c .packets) (c .volume) (take (c .len) (c .entries)) k (c .«places_in» .0) (c .«step_in» .0) (lawful c),
+      total-fits _ _ _ _ _ (c .«step_in» .1) (c .«packets_in» .0) (c .«packets_in» .1) (lawful c),
+    )

@@ -36,8 +36,9 @@ pub between-gap : (a b : ℕ) (xs : List Entry) → Rising xs → between a b xs
 between-gap a b [] r = omega arith
 between-gap a b (x ∷ xs) r =
     elim (cases-lt a (x .group)) [
-      inl h ↦ between-above a b (a + 1) (x ∷ xs) r (omega arith, atLeast-less (a + 1) (x .group) xs (omega arith) (r .0))
-    | inr h ↦ grind (arith, tells, between-gap a b xs (r .1)) ]
+      | inl h ↦ between-above a b (a + 1) (x ∷ xs) r (omega arith, atLeast-less (a + 1) (x .group) xs (omega arith) (r .0))
+      | inr h ↦ grind (arith, tells, between-gap a b xs (r .1))
+    ]
 
 pub rising-others : (n : ℕ) (line : List Entry) (k : Code) → Rising line → Rising (others n line k)
 rising-others n line k r =

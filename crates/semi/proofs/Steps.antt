@@ -273,10 +273,10 @@ entryOf-found k (x ∷ xs) (suc i) d l h q =
 pub value-start : (n s t v : ℕ) (line : List Entry) (k : Code) → 0 < n → 0 < s → Lawful n s t v line → value s (start n s line k) ≤ total s line
 value-start n s t v line k some step l =
     elim (cases-bool (holds k line)) [
-      inl h ↦ omega (arith, total-without s k line (entering n s line k) h, small-start n s line k step (l .small))
-    | inr h ↦ elim (cases-lt (length line) n) [
-        inl q ↦ omega (arith, estimate-room n s line k h q)
-      | inr q ↦ omega (arith, estimate-full n s line k h q, rest-lawful s line (omega arith) .1)
+      | inl h ↦ omega (arith, total-without s k line (entering n s line k) h, small-start n s line k step (l .small))
+      | inr h ↦ elim (cases-lt (length line) n) [
+        | inl q ↦ omega (arith, estimate-room n s line k h q)
+        | inr q ↦ omega (arith, estimate-full n s line k h q, rest-lawful s line (omega arith) .1)
       ]
     ]
 

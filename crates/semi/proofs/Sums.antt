@@ -42,11 +42,12 @@ all-held : (n s t v m : ℕ) (line : List Entry) (ks : List Code) → 0 < n → 
 all-held n s t v m line [] some l q e = tt
 all-held n s t v m line (k ∷ ks) some l q e =
     let held : holds k line ≡ true = elim (cases-bool (holds k line)) [
-          inl y ↦ y
-        | inr y ↦ absurd (elim (cases-lt (length line) n) [
-            inl r ↦ omega (arith, estimate-room n s line k y r, e .0, mul-le-mul-left n (e .0), ap (λ (x : ℕ). n * x) (estimate-room n s line k y r), mul-comm n 0)
-          | inr r ↦ omega (arith, mul-le-mul-left n (e .0), ap (λ (x : ℕ). n * x) (estimate-full n s line k y r), full-bound n s t v line l r)
-          ]) ] in
+      | inl y ↦ y
+      | inr y ↦ absurd (elim (cases-lt (length line) n) [
+        | inl r ↦ omega (arith, estimate-room n s line k y r, e .0, mul-le-mul-left n (e .0), ap (λ (x : ℕ). n * x) (estimate-room n s line k y r), mul-comm n 0)
+        | inr r ↦ omega (arith, mul-le-mul-left n (e .0), ap (λ (x : ℕ). n * x) (estimate-full n s line k y r), full-bound n s t v line l r)
+      ])
+    ] in
     (held, (λ d. ap (value s) (entryOf-held k line _ d held)), all-held n s t v m line ks some l q (e .1))
 
 -- the law of a counter

@@ -42,19 +42,19 @@ pub between-run : (a g b : ℕ) (xs : List Entry) → a < g → g < b → Rising
 between-run a g b [] l m r h q = grind arith
 between-run a g b (x ∷ xs) l m r h q =
     elim (cases-order g (x .group)) [
-      inl e ↦ let rr : AtLeast g xs = rw e (r .0) in
-        elim (cases-bool (hasGroup g xs)) [
-          inl z ↦ let i = between-run a g b xs l m (r .1) rr z in grind (arith, tells)
-        | inr z ↦ let i = between-raise a g b xs (omega arith) (atLeast-next g xs rr z) in grind (arith, tells)
-        ]
-    | inr o ↦ let z = no-group g xs (atLeast-less (g + 1) (x .group) xs (grind arith) (r .0)) in absurd (grind (arith, tells))
+      | inl e ↦ let rr : AtLeast g xs = rw e (r .0) in
+          elim (cases-bool (hasGroup g xs)) [
+            | inl z ↦ let i = between-run a g b xs l m (r .1) rr z in grind (arith, tells)
+            | inr z ↦ let i = between-raise a g b xs (omega arith) (atLeast-next g xs rr z) in grind (arith, tells)
+          ]
+      | inr o ↦ let z = no-group g xs (atLeast-less (g + 1) (x .group) xs (grind arith) (r .0)) in absurd (grind (arith, tells))
     ]
 
 pub between-first : (a b : ℕ) (x : Entry) (xs : List Entry) → a < x .group → x .group < b → Rising (x ∷ xs) → between a b (x ∷ xs) ≡ 1 + between (x .group) b xs
 between-first a b x xs l m r =
     elim (cases-bool (hasGroup (x .group) xs)) [
-      inl q ↦ grind (arith, tells, between-run a (x .group) b xs l m (r .1) (r .0) q)
-    | inr q ↦ grind (arith, tells, between-raise a (x .group) b xs, atLeast-next (x .group) xs (r .0) q)
+      | inl q ↦ grind (arith, tells, between-run a (x .group) b xs l m (r .1) (r .0) q)
+      | inr q ↦ grind (arith, tells, between-raise a (x .group) b xs, atLeast-next (x .group) xs (r .0) q)
     ]
 
 -- a group that is not between counts nothing
@@ -76,7 +76,7 @@ module _ (xs : List Entry) (h : ℕ) (l : h + 1 < length xs) where
       let x = getD xs (h + 1) blank in
       let a : take (h + 1) (set xs h (getD xs (h + 1) blank)) ≡ take h xs ++ getD xs (h + 1) blank ∷ [] = take-more-set xs h x (omega arith) in
       let b : placed new (drop (h + 1) xs) ≡ getD xs (h + 1) blank ∷ placed new (drop (h + 1 + 1) xs) =
-            ap (placed new) split-next ∙ cond-true (leb (x .group) (new .group)) _ _ (le-leb (x .group) (new .group) q) in
+      ap (placed new) split-next ∙ cond-true (leb (x .group) (new .group)) _ _ (le-leb (x .group) (new .group) q) in
       let c = rest-set x in
       let e = append-assoc (take h xs) (x ∷ []) (placed new (drop (h + 1 + 1) xs)) in
       cc
@@ -91,20 +91,20 @@ pub record Turned (new : Entry) (last passed : ℕ) (left : List Entry) (last′
 pub turn-counts : (new : Entry) (last passed : ℕ) (x : Entry) (xs : List Entry) → Rising (x ∷ xs) → AtLeast last (x ∷ xs) →
     last < x .group → x .group < new .group → Turned new last passed (x ∷ xs) (x .group) (passed + 1) xs
 turn-counts new last passed x xs r a l m = record {
-    rising = r .1;
-    least = r .0;
-    counted = omega (arith, between-first last (new .group) x xs l m r);
-    slow = omega arith;
-  }
+  rising = r .1;
+  least = r .0;
+  counted = omega (arith, between-first last (new .group) x xs l m r);
+  slow = omega arith;
+}
 
 pub turn-skips : (new : Entry) (last passed : ℕ) (x : Entry) (xs : List Entry) → Rising (x ∷ xs) → AtLeast last (x ∷ xs) →
     (x .group ≤ last) ⊎ (new .group ≤ x .group) → Turned new last passed (x ∷ xs) last passed xs
 turn-skips new last passed x xs r a h = record {
-    rising = r .1;
-    least = a .1;
-    counted = omega (arith, between-none last (new .group) x xs h);
-    slow = omega arith;
-  }
+  rising = r .1;
+  least = a .1;
+  counted = omega (arith, between-none last (new .group) x xs h);
+  slow = omega arith;
+}
 
 -- a turn by what the code asks
 pub turn-pass : (new : Entry) (last passed : ℕ) (x : Entry) (xs : List Entry) → Rising (x ∷ xs) → AtLeast last (x ∷ xs) →
@@ -117,10 +117,12 @@ pub turn-none : (new : Entry) (last passed : ℕ) (x : Entry) (xs : List Entry) 
 turn-none new last passed x xs r a e =
     turn-skips new last passed x xs r a
     (elim (cases-lt last (x .group)) [
-      inl l ↦ elim (cases-lt (x .group) (new .group)) [
-        inl m ↦ absurd (false≢true (e ∙ and-from _ _ (lt-ltb _ _ l) (lt-ltb _ _ m)))
-      | inr m ↦ inr m ]
-    | inr l ↦ inl l ])
+      | inl l ↦ elim (cases-lt (x .group) (new .group)) [
+        | inl m ↦ absurd (false≢true (e ∙ and-from _ _ (lt-ltb _ _ l) (lt-ltb _ _ m)))
+        | inr m ↦ inr m
+      ]
+      | inr l ↦ inl l
+    ])
 
 -- the loop's end
 pub line-end : (xs : List Entry) (h : ℕ) (new : Entry) → h < length xs → placed new (drop (h + 1) xs) ≡ new ∷ drop (h + 1) xs → set xs h new ≡ take h xs ++ placed new (drop (h + 1) xs)
@@ -136,8 +138,10 @@ module _ (xs : List Entry) (h : ℕ) (new : Entry) where
       let x = getD xs (h + 1) blank in
       let e = split-next xs h l in
       let r′ : Rising (getD xs (h + 1) blank ∷ drop (h + 1 + 1) xs) = rw e at r in
-      rw e (cond-false (leb (x .group) (new .group)) _ _ (lt-leb (x .group) (new .group) q),
-        λ a. between-zero a (new .group) (x ∷ drop (h + 1 + 1) xs) (omega arith, atLeast-less (new .group) (x .group) _ (omega arith) (r′ .0)))
+      rw e (
+        cond-false (leb (x .group) (new .group)) _ _ (lt-leb (x .group) (new .group) q),
+        λ a. between-zero a (new .group) (x ∷ drop (h + 1 + 1) xs) (omega arith, atLeast-less (new .group) (x .group) _ (omega arith) (r′ .0)),
+      )
 
 -- what the loop of `settle` keeps: what is done and what is left give the answer
 pub record Sofar (at from : ℕ) (new : Entry) (old : List Entry) (hole last passed : ℕ) (xs : List Entry) : Type 0 where

@@ -36,7 +36,8 @@ semiMore x k w = record {
   step = x .step;
   packets = x .packets + 1;
   volume = x .volume + w;
-  line = added (x .places) (x .step) (x .line) k w }
+  line = added (x .places) (x .step) (x .line) k w;
+}
 
 abbrev pub semiMeaning : Meaning SemiOrdered
 semiMeaning = record {
@@ -52,4 +53,5 @@ semiMeaning = record {
   opened = λ _ n s. semiOpened n s;
   flushed = λ x. semiOpened (x .places) (x .step);
   added = semiMore;
-  passes = λ x k w. passes (x .places) (x .step) (x .line) k w }
+  passes = λ x k w. passes (x .places) (x .step) (x .line) k w;
+}

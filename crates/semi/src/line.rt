@@ -70,7 +70,11 @@ fn raise(code: Code, group: u64, remainder: u32, step: u32, weight: u32) -> Entr
     ensures { λ r. ⌜ r ≡ raised step weight code (record { code = code; group = group; remainder = remainder }) ⌝ }
 {
     let sum = remainder + weight;
-    Entry { code, group: group + (sum / step) as u64, remainder: sum % step }
+    Entry {
+        code,
+        group: group + (sum / step) as u64,
+        remainder: sum % step,
+    }
 }
 
 // Adds to the code of the entry at `at`.
@@ -123,7 +127,14 @@ pub(crate) fn enter(cells: &mut [Entry], step: u32, code: Code, weight: u32) -> 
 }
 
 // Adds to a code of a line of `len` entries that has room for `places`. Answers the new length and the passes.
-pub(crate) fn count(entries: &mut [Entry; MOST_PLACES], len: usize, places: usize, step: u32, code: Code, weight: u32) -> (usize, usize)
+pub(crate) fn count(
+    entries: &mut [Entry; MOST_PLACES],
+    len: usize,
+    places: usize,
+    step: u32,
+    code: Code,
+    weight: u32,
+) -> (usize, usize)
     requires places { ⌜ len ≤ places ⌝ ∗ ⌜ 0 < places ⌝ ∗ ⌜ places ≤ 256 ⌝ }
     requires sizes { ⌜ 0 < step ⌝ ∗ ⌜ step < 2 ^ 22 ⌝ ∗ ⌜ weight < 2 ^ 21 ⌝ }
     requires lawful { ⌜ Rising (take len (now entries)) ⌝ ∗ ⌜ CodesDiffer (take len (now entries)) ⌝ ∗ ⌜ Small step (take len (now entries)) ⌝ ∗ ⌜ total step (take len (now entries)) < 2 ^ 48 ⌝ }
@@ -159,9 +170,17 @@ fn entering_as(line: &[Entry], places: usize, step: u32, code: Code) -> Entry
     ensures { λ r. ⌜ r ≡ entering places step (now (line .entry)) code ⌝ }
 {
     if line.len() < places {
-        return Entry { code, group: 0, remainder: 0 };
+        return Entry {
+            code,
+            group: 0,
+            remainder: 0,
+        };
     }
-    Entry { code, group: first_group(line), remainder: step - 1 }
+    Entry {
+        code,
+        group: first_group(line),
+        remainder: step - 1,
+    }
 }
 
 // What a code counts from.

@@ -3,7 +3,7 @@ use mathlib.Core.Path.{_≡_, refl, sym, ap, _∙_}
 use mathlib.Core.Bool.{true}
 use mathlib.Core.Logic.{inl, inr}
 use mathlib.Core.List.{List, [], _∷_}
-use Prim.Native.Nat.{ℕ, zero, suc, _+_, _-_, _*_, _≤_, _<_}
+use Prim.Native.Nat.{ℕ, zero, suc, _+_, _*_, _≤_, _<_}
 use native.Mathlib.Omega.{arith}
 use native.Mathlib.Nat.{add-mul, mul-add, mul-le-mul-left}
 use lib.ListN.{replicate}
@@ -120,3 +120,7 @@ module _ (x : SharedModel) (s : SharedSound x) (l : ℕ) (q : x .volume + x .pac
   heavy-sum codes a h =
       let sum = sum-shown (x .deduction) (λ k. countOf k (x .held) + x .deduction) (x .held) codes a (shown-heavy codes h) in
       omega (arith, sum, ap (λ (n : ℕ). n * x .deduction) (s .long), s .sum, add-mul (x .places) 1 (x .deduction))
+
+-- a new counter is sound
+pub new-sound : SharedSound (sharedOpened 1)
+new-sound = record { some = omega arith; few = omega arith; long = refl; tidily = refl; sum = refl }

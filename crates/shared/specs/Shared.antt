@@ -5,11 +5,11 @@
 --   sharedMore      the model after an add that is not refused
 --   sharedMeaning   the kind as a frame counter
 use mathlib.Core.Path.{_≡_}
-use mathlib.Core.Bool.{Bool, true, false, cond, _||_}
-use mathlib.Core.List.{List, [], _∷_}
-use Prim.Native.Nat.{ℕ, _+_, _*_, _≤_, _<_}
+use mathlib.Core.Bool.{true, cond, _||_}
+use mathlib.Core.List.{List}
+use Prim.Native.Nat.{ℕ, _+_, _*_, _≤_}
 use lib.ListN.{length, take, replicate}
-use Rattle.flow.specs.Limits.{mostPlaces, mostPackets}
+use Rattle.flow.specs.Limits.{mostPackets}
 use Rattle.flow.specs.Meanings.{Meaning}
 use Rattle.flow.specs.declared.code.Code.{Code}
 use Rattle.shared.specs.declared.place.Place.{Place}

@@ -71,7 +71,10 @@ fn with_less(place: Place, by: u64) -> Place
     ensures { λ r. ⌜ r ≡ less by place ⌝ }
 {
     match place {
-        Place::Held { code, count } if count > by => Place::Held { code, count: count - by },
+        Place::Held { code, count } if count > by => Place::Held {
+            code,
+            count: count - by,
+        },
         _ => Place::Empty,
     }
 }

@@ -6,10 +6,9 @@
 --   CounterSheets   both sheets
 use mathlib.Core.Path.{_≡_}
 use mathlib.Core.Bool.{false}
-use mathlib.Core.List.{List, [], _∷_}
+use mathlib.Core.List.{[], _∷_}
 use Prim.Native.Nat.{ℕ}
 use Rattle.flow.specs.declared.code.Code.{Code}
-use Rattle.semi.specs.declared.entry.Entry.{Entry}
 use Rattle.semi.specs.Line.{holds}
 use Rattle.shared.specs.Places.{holds as hasPlace}
 use Rattle.semi.specs.Semi.{SemiModel, semiOpened, semiMore, semiMeaning}

@@ -12,8 +12,11 @@ ghost use Rattle.semi.specs.declared.entry.Entry.{Entry as Item};
 ghost use Rattle.sheets.specs.Sheets.{CounterSheets};
 
 const FLOW_A: Code = Code { high: 0, low: 1 };
+
 const FLOW_B: Code = Code { high: 0, low: 2 };
+
 const FLOW_C: Code = Code { high: 0, low: 3 };
+
 const FLOW_E: Code = Code { high: 0, low: 5 };
 
 // The semi-ordered sheet: the estimates of A, B and an absent flow after A 7 and B 25, of C and A after C 3, of C after C 30.
@@ -24,7 +27,11 @@ fn semi_sheet() -> [u64; 6]
     let _ = counter.open(2, 10);
     let _ = counter.add(FLOW_A, 7);
     let _ = counter.add(FLOW_B, 25);
-    let (a, b, absent) = (counter.estimate(FLOW_A), counter.estimate(FLOW_B), counter.estimate(FLOW_E));
+    let (a, b, absent) = (
+        counter.estimate(FLOW_A),
+        counter.estimate(FLOW_B),
+        counter.estimate(FLOW_E),
+    );
     let _ = counter.add(FLOW_C, 3);
     let (c, evicted) = (counter.estimate(FLOW_C), counter.estimate(FLOW_A));
     let _ = counter.add(FLOW_C, 30);
@@ -40,10 +47,22 @@ fn shared_sheet() -> [u64; 7]
     let _ = counter.add(FLOW_A, 5);
     let _ = counter.add(FLOW_B, 3);
     let _ = counter.add(FLOW_C, 4);
-    let (a, b, c) = (counter.estimate(FLOW_A), counter.estimate(FLOW_B), counter.estimate(FLOW_C));
+    let (a, b, c) = (
+        counter.estimate(FLOW_A),
+        counter.estimate(FLOW_B),
+        counter.estimate(FLOW_C),
+    );
     let first = counter.deduction();
     let _ = counter.add(FLOW_E, 1);
-    [first, a, b, c, counter.deduction(), counter.estimate(FLOW_A), counter.estimate(FLOW_B)]
+    [
+        first,
+        a,
+        b,
+        c,
+        counter.deduction(),
+        counter.estimate(FLOW_A),
+        counter.estimate(FLOW_B),
+    ]
 }
 
 // Runs both sheets. The sheets follow from the rules, and the counters answer as they say.

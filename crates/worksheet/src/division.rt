@@ -24,7 +24,12 @@ impl Division {
             return None;
         }
         let by = u64::from(step);
-        Some(Division { number, step, quotient: number / by, remainder: number % by })
+        Some(Division {
+            number,
+            step,
+            quotient: number / by,
+            remainder: number % by,
+        })
     }
 
     // How many whole steps there are.

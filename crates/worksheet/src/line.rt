@@ -44,8 +44,14 @@ impl Heading {
     pub(crate) fn read(line: &[u8]) -> Heading {
         let (word, rest) = next_word(line);
         match Kind::named(word) {
-            Some(kind) => Heading { kind: Some(kind), sizes: read_sizes(rest) },
-            None => Heading { kind: None, sizes: None },
+            Some(kind) => Heading {
+                kind: Some(kind),
+                sizes: read_sizes(rest),
+            },
+            None => Heading {
+                kind: None,
+                sizes: None,
+            },
         }
     }
 }
@@ -96,7 +102,10 @@ impl Packet {
         if !is_blank(rest) {
             return Err(Unread::More);
         }
-        Ok(Packet { code: account.code(), weight })
+        Ok(Packet {
+            code: account.code(),
+            weight,
+        })
     }
 }
 

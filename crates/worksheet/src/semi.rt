@@ -5,11 +5,11 @@ ghost use Rattle.worksheet.specs.Workings.{wayOf};
 use crate::division::Division;
 use crate::division::DivisionDisplay;
 use crate::worked::Worked;
-use semi::Entry;
-use semi::SemiOrdered;
-use semi::SemiCounter;
 use flow::code::Code;
 use flow::counter::FrameCounter;
+use semi::Entry;
+use semi::SemiCounter;
+use semi::SemiOrdered;
 use std::alloc::AllocError;
 use std::io;
 
@@ -50,7 +50,10 @@ fn show_way(rt: &LibcRuntime, way: Way) -> io::Result<()> {
     match way {
         Way::Held => println!(rt, "  held: it counts from its entry"),
         Way::Enters => println!(rt, "  absent, and the line has room: it counts from 0"),
-        Way::Evicts(_) => println!(rt, "  absent, and the line is full: it counts from the first group and step - 1"),
+        Way::Evicts(_) => println!(
+            rt,
+            "  absent, and the line is full: it counts from the first group and step - 1"
+        ),
     }
 }
 
@@ -62,7 +65,10 @@ fn show_evicted(rt: &LibcRuntime, way: Way) -> io::Result<()> {
             let flow = first.code.low;
             let group = first.group;
             let remainder = first.remainder;
-            println!(rt, "  evicted:  flow {flow} (group {group}, remainder {remainder})")
+            println!(
+                rt,
+                "  evicted:  flow {flow} (group {group}, remainder {remainder})"
+            )
         }
     }
 }
@@ -75,12 +81,25 @@ pub impl Worked for SemiOrdered as SemiWorked {
     }
 
     fn before(&self, _rt: &LibcRuntime, code: Code) -> Result<Before, AllocError> {
-        Ok(Before { way: way_of(self, code), start: self.start(code) })
+        Ok(Before {
+            way: way_of(self, code),
+            start: self.start(code),
+        })
     }
 
-    fn show_add(&self, rt: &LibcRuntime, before: &Before, code: Code, weight: u32) -> io::Result<()> {
+    fn show_add(
+        &self,
+        rt: &LibcRuntime,
+        before: &Before,
+        code: Code,
+        weight: u32,
+    ) -> io::Result<()> {
         show_way(rt, before.way)?;
-        let Entry { group, remainder, .. } = before.start;
+        let Entry {
+            group,
+            remainder,
+            ..
+        } = before.start;
         println!(rt, "  before:   group {group}, remainder {remainder}")?;
         let sum = u64::from(remainder) + u64::from(weight);
         if let Some(division) = Division::of(sum, self.step()) {
@@ -89,19 +108,28 @@ pub impl Worked for SemiOrdered as SemiWorked {
             let new_group = after.group;
             let new_remainder = after.remainder;
             println!(rt, "  division: {remainder} + {weight} = {division}")?;
-            println!(rt, "  after:    group {group} + {quotient} = {new_group}, remainder {new_remainder}")?;
+            println!(
+                rt,
+                "  after:    group {group} + {quotient} = {new_group}, remainder {new_remainder}"
+            )?;
         }
         show_evicted(rt, before.way)
     }
 
     fn show_all(&self, rt: &LibcRuntime) -> io::Result<()> {
-        println!(rt, "  line:           flow      group  remainder       estimate")?;
+        println!(
+            rt,
+            "  line:           flow      group  remainder       estimate"
+        )?;
         for entry in self.line() {
             let flow = entry.code.low;
             let group = entry.group;
             let remainder = entry.remainder;
             let estimate = self.estimate(entry.code);
-            println!(rt, "            {flow:>10} {group:>10} {remainder:>10} {estimate:>14}")?;
+            println!(
+                rt,
+                "            {flow:>10} {group:>10} {remainder:>10} {estimate:>14}"
+            )?;
         }
         Ok(())
     }

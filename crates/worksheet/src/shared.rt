@@ -1,10 +1,10 @@
 // The working of an add to a shared-deduction counter.
 use crate::worked::Worked;
-use shared::Place;
-use shared::SharedDeduction;
-use shared::SharedCounter;
 use flow::code::Code;
 use flow::counter::FrameCounter;
+use shared::Place;
+use shared::SharedCounter;
+use shared::SharedDeduction;
 use std::alloc::AllocError;
 use std::io;
 
@@ -41,7 +41,13 @@ fn is_of(place: &Place, code: Code) -> bool {
 }
 
 // Prints which rule applied, and its reckoning.
-fn show_reckoning(rt: &LibcRuntime, before: &Before, weight: u32, count: u64, deduction: u64) -> io::Result<()> {
+fn show_reckoning(
+    rt: &LibcRuntime,
+    before: &Before,
+    weight: u32,
+    count: u64,
+    deduction: u64,
+) -> io::Result<()> {
     let old = before.count;
     let from = before.deduction;
     if old > 0 {
@@ -58,8 +64,14 @@ fn show_reckoning(rt: &LibcRuntime, before: &Before, weight: u32, count: u64, de
     let least = least_count(&before.places);
     let fall = deduction.saturating_sub(from);
     let left = u64::from(weight).saturating_sub(fall);
-    println!(rt, "  fall:     the smaller of the weight {weight} and the least count {least} is {fall}")?;
-    println!(rt, "  shared:   deduction {from} + {fall} = {deduction}, left of the weight {weight} - {fall} = {left}")
+    println!(
+        rt,
+        "  fall:     the smaller of the weight {weight} and the least count {least} is {fall}"
+    )?;
+    println!(
+        rt,
+        "  shared:   deduction {from} + {fall} = {deduction}, left of the weight {weight} - {fall} = {left}"
+    )
 }
 
 // Prints the flows that had a place before and have it no more.
@@ -74,7 +86,11 @@ fn show_evicted(rt: &LibcRuntime, before: &[Place], after: &[Place]) -> io::Resu
             }
         }
     }
-    if some { Ok(()) } else { println!(rt, "  evicted:  none") }
+    if some {
+        Ok(())
+    } else {
+        println!(rt, "  evicted:  none")
+    }
 }
 
 pub impl Worked for SharedDeduction as SharedWorked {
@@ -86,10 +102,20 @@ pub impl Worked for SharedDeduction as SharedWorked {
 
     fn before(&self, rt: &LibcRuntime, code: Code) -> Result<Before, AllocError> {
         let places = self.held().to_vec(rt.alloc())?;
-        Ok(Before { count: count_of(self, code), deduction: self.deduction(), places })
+        Ok(Before {
+            count: count_of(self, code),
+            deduction: self.deduction(),
+            places,
+        })
     }
 
-    fn show_add(&self, rt: &LibcRuntime, before: &Before, code: Code, weight: u32) -> io::Result<()> {
+    fn show_add(
+        &self,
+        rt: &LibcRuntime,
+        before: &Before,
+        code: Code,
+        weight: u32,
+    ) -> io::Result<()> {
         let deduction = self.deduction();
         let count = count_of(self, code);
         show_reckoning(rt, before, weight, count, deduction)?;

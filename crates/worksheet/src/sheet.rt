@@ -7,10 +7,10 @@ use crate::semi::SemiWorked;
 use crate::shared::SharedWorked;
 use crate::totals::Totals;
 use crate::worked::Worked;
-use semi::SemiOrdered;
-use shared::SharedDeduction;
 use flow::counter::FrameCounter;
 use flow::refusal::Refusal;
+use semi::SemiOrdered;
+use shared::SharedDeduction;
 use std::io;
 
 // A sheet of a kind, with a counter of each kind, of which it uses its own, and the true volumes of its flows.
@@ -33,18 +33,40 @@ impl Sheet {
             Kind::SemiOrdered => open(rt, &mut semi, line, heading.sizes)?,
             Kind::SharedDeduction => open(rt, &mut shared, line, heading.sizes)?,
         }
-        Ok(Sheet { kind, semi, shared, totals: Totals::new(rt.alloc()) })
+        Ok(Sheet {
+            kind,
+            semi,
+            shared,
+            totals: Totals::new(rt.alloc()),
+        })
     }
 
     // Works a line behind the heading. A blank line is passed over.
-    pub(crate) fn work_line(&mut self, rt: &LibcRuntime, number: u64, line: &[u8]) -> io::Result<()> {
+    pub(crate) fn work_line(
+        &mut self,
+        rt: &LibcRuntime,
+        number: u64,
+        line: &[u8],
+    ) -> io::Result<()> {
         if is_blank(line) {
             return Ok(());
         }
         match Packet::read(line) {
             Ok(packet) => match self.kind {
-                Kind::SemiOrdered => work_packet(rt, &mut self.semi, &mut self.totals, number, packet),
-                Kind::SharedDeduction => work_packet(rt, &mut self.shared, &mut self.totals, number, packet),
+                Kind::SemiOrdered => work_packet(
+                    rt,
+                    &mut self.semi,
+                    &mut self.totals,
+                    number,
+                    packet,
+                ),
+                Kind::SharedDeduction => work_packet(
+                    rt,
+                    &mut self.shared,
+                    &mut self.totals,
+                    number,
+                    packet,
+                ),
             },
             Err(unread) => show_unread(rt, number, unread.words()),
         }
@@ -72,23 +94,41 @@ fn show_unread(rt: &LibcRuntime, line: u64, why: &str) -> io::Result<()> {
 }
 
 // Opens the counter with these places and step, and prints the title.
-fn open<C: Worked>(rt: &LibcRuntime, counter: &mut C, line: u64, sizes: Option<(u32, u32)>) -> io::Result<()> {
+fn open<C: Worked>(
+    rt: &LibcRuntime,
+    counter: &mut C,
+    line: u64,
+    sizes: Option<(u32, u32)>,
+) -> io::Result<()> {
     match sizes {
         Some((places, step)) => {
             if let Err(refusal) = counter.open(places as usize, step) {
                 show_refusal(rt, line, refusal)?;
             }
         }
-        None => show_unread(rt, line, "a heading is a kind of counter, its places and its step")?,
+        None => show_unread(
+            rt,
+            line,
+            "a heading is a kind of counter, its places and its step",
+        )?,
     }
     let title = C::title();
     let places = counter.places();
     let step = counter.step();
-    println!(rt, "Worked sheet: {title} counter, places {places}, step {step}\n")
+    println!(
+        rt,
+        "Worked sheet: {title} counter, places {places}, step {step}\n"
+    )
 }
 
 // Works one packet: adds it, and prints the working or the refusal.
-fn work_packet<C: Worked>(rt: &LibcRuntime, counter: &mut C, totals: &mut Totals, line: u64, packet: Packet) -> io::Result<()> {
+fn work_packet<C: Worked>(
+    rt: &LibcRuntime,
+    counter: &mut C,
+    totals: &mut Totals,
+    line: u64,
+    packet: Packet,
+) -> io::Result<()> {
     let Packet { code, weight } = packet;
     let before = counter.before(rt, code)?;
     match counter.add(code, weight) {

@@ -18,24 +18,30 @@ pub struct Totals {
 }
 
 impl Totals {
-    pub fn new(heap: Global) -> Totals {
-        Totals { flows: Vec::new(heap) }
+    pub(crate) fn new(heap: Global) -> Totals {
+        Totals {
+            flows: Vec::new(heap),
+        }
     }
 
     // The flows with their volumes.
-    pub fn flows(&self) -> &[Total] {
+    pub(crate) fn flows(&self) -> &[Total] {
         self.flows.as_slice()
     }
 
     // A packet of a flow.
-    pub fn add(&mut self, code: Code, weight: u32) -> Result<(), AllocError> {
+    pub(crate) fn add(&mut self, code: Code, weight: u32) -> Result<(), AllocError> {
         for total in self.flows.iter_mut() {
             if total.code == code {
                 total.volume = total.volume.saturating_add(u64::from(weight));
                 return Ok(());
             }
         }
-        self.flows.push(Total { code, volume: u64::from(weight) })?;
+        self.flows
+            .push(Total {
+                code,
+                volume: u64::from(weight),
+            })?;
         Ok(())
     }
 }

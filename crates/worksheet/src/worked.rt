@@ -16,7 +16,13 @@ pub trait Worked: FrameCounter {
     fn before(&self, rt: &LibcRuntime, code: Code) -> Result<Self::Before, AllocError>;
 
     // Prints the working of an add that was taken.
-    fn show_add(&self, rt: &LibcRuntime, before: &Self::Before, code: Code, weight: u32) -> io::Result<()>;
+    fn show_add(
+        &self,
+        rt: &LibcRuntime,
+        before: &Self::Before,
+        code: Code,
+        weight: u32,
+    ) -> io::Result<()>;
 
     // Prints the whole counter.
     fn show_all(&self, rt: &LibcRuntime) -> io::Result<()>;

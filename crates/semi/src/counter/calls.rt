@@ -1,10 +1,10 @@
 // The calls of a semi-ordered counter.
+use crate::counter::SemiOrdered;
 use crate::entry::Entry;
 use crate::line::count;
 use crate::line::is_held;
 use crate::line::started;
 use crate::line::worth;
-use crate::counter::SemiOrdered;
 use flow::code::Code;
 use flow::counter::FrameCounter;
 use flow::limits::MOST_PACKETS;
@@ -20,14 +20,33 @@ ghost use Rattle.flow.specs.Meanings.{addAnswer, addLeaves};
 ghost use Rattle.semi.specs.Line.{holds, start};
 ghost use Rattle.semi.specs.Semi.{semiMeaning, semiOpened};
 
-const BLANK: Entry = Entry { code: Code { high: 0, low: 0 }, group: 0, remainder: 0 };
+const BLANK: Entry = Entry {
+    code: Code { high: 0, low: 0 },
+    group: 0,
+    remainder: 0,
+};
 
 impl SemiOrdered {
     // A counter as opened with 1 and 1.
     pub fn new() -> SemiOrdered
+        ensures opened { λ r. ⌜ semiMeaning .model r ≡ semiOpened 1 1 ⌝ }
+        ensures sound { λ r. ⌜ semiMeaning .sound (semiMeaning .model r) ⌝ }
+    {
+        SemiOrdered::smallest()
+    }
+
+    // A counter with one place and step 1.
+    fn smallest() -> SemiOrdered
         ensures { λ r. ⌜ semiMeaning .model r ≡ semiOpened 1 1 ⌝ }
     {
-        SemiOrdered { places: 1, step: 1, packets: 0, volume: 0, len: 0, entries: [BLANK; MOST_PLACES] }
+        SemiOrdered {
+            places: 1,
+            step: 1,
+            packets: 0,
+            volume: 0,
+            len: 0,
+            entries: [BLANK; MOST_PLACES],
+        }
     }
 
     // Empties the counter, with so many places and this step.
@@ -94,7 +113,14 @@ pub impl FrameCounter for SemiOrdered as SemiCounter {
         if self.packets == MOST_PACKETS {
             return Err(Refusal::CounterFull);
         }
-        let (len, passes) = count(&mut self.entries, self.len, self.places, self.step, code, weight);
+        let (len, passes) = count(
+            &mut self.entries,
+            self.len,
+            self.places,
+            self.step,
+            code,
+            weight,
+        );
         self.len = len;
         self.packets += 1;
         self.volume += weight as u64;

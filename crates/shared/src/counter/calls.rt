@@ -1,7 +1,7 @@
 // The calls of a shared-deduction counter.
+use crate::counter::SharedDeduction;
 use crate::place::Place;
 use crate::places;
-use crate::counter::SharedDeduction;
 use flow::code::Code;
 use flow::counter::FrameCounter;
 use flow::limits::MOST_PACKETS;
@@ -46,6 +46,14 @@ impl SharedDeduction {
 
     // A counter as opened with 1 and 1.
     pub fn new() -> SharedDeduction
+        ensures opened { λ r. ⌜ sharedMeaning .model r ≡ sharedOpened 1 ⌝ }
+        ensures sound { λ r. ⌜ sharedMeaning .sound (sharedMeaning .model r) ⌝ }
+    {
+        SharedDeduction::smallest()
+    }
+
+    // A counter with one place.
+    fn smallest() -> SharedDeduction
         ensures { λ r. ⌜ sharedMeaning .model r ≡ sharedOpened 1 ⌝ }
     {
         SharedDeduction::opened(1)

@@ -6,7 +6,7 @@ use Rattle.sheets.proofs.semi_sheet.Needs as need
 
 pub returns : need.returns
 returns c =
-    let opened = c .open .ensures .state ∙ ap (λ (x : SemiModel). openLeaves semiMeaning x 2 10) (c .new-counter .ensures) in
+    let opened = c .open .ensures .state ∙ ap (λ (x : SemiModel). openLeaves semiMeaning x 2 10) (c .new-counter .ensures .opened) in
     let one = c .add .ensures .state ∙ ap (λ (x : SemiModel). addLeaves semiMeaning x A 7) opened in
     let first = c .add-2 .ensures .state ∙ ap (λ (x : SemiModel). addLeaves semiMeaning x B 25) one in
     let second = c .add-3 .ensures .state ∙ ap (λ (x : SemiModel). addLeaves semiMeaning x C 3) first in

@@ -6,7 +6,7 @@ use Rattle.sheets.proofs.shared_sheet.Needs as need
 
 pub returns : need.returns
 returns c =
-    let opened = c .open .ensures .state ∙ ap (λ (x : SharedModel). openLeaves sharedMeaning x 2 1) (c .new-counter .ensures) in
+    let opened = c .open .ensures .state ∙ ap (λ (x : SharedModel). openLeaves sharedMeaning x 2 1) (c .new-counter .ensures .opened) in
     let one = c .add .ensures .state ∙ ap (λ (x : SharedModel). addLeaves sharedMeaning x A 5) opened in
     let two = c .add-2 .ensures .state ∙ ap (λ (x : SharedModel). addLeaves sharedMeaning x B 3) one in
     let first = c .add-3 .ensures .state ∙ ap (λ (x : SharedModel). addLeaves sharedMeaning x C 4) two in

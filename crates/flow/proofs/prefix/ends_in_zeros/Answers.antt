@@ -1,5 +1,4 @@
 use borrow.Author.Needs.{needs}
-use lib.Pow.{pow-lt}
 use native.Mathlib.Omega.{arith}
 use Prim.Native.Nat.{_<_, _-_, _^_}
 use Rattle.std.proofs.shelf.Bits.{pow-below}

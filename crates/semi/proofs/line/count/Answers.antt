@@ -4,7 +4,6 @@ use mathlib.Core.List.{List, []}
 use Prim.Native.Nat.{_+_, _-_, _<_, _^_, _≤_, ℕ}
 use native.Mathlib.Omega.{arith}
 use lib.ListN.{getD, length, take}
-use Rattle.semi.proofs.Memory.{lawful}
 use Rattle.flow.proofs.Fronts.{front-is}
 use Rattle.semi.proofs.Steps.{cells-front, count-length, count-line, count-passes, first-at, group-bound, grown-line, grown-more, grown-passes}
 use Rattle.semi.specs.Line.{CodesDiffer, Rising, Small, added, blank, holds, passes, total}
@@ -20,8 +19,17 @@ grow-requires c κs =
     let within = c .in-Some .ensures tt .0 in
     record {
       within = within;
-      sizes = (c .pre .sizes .0, (c .pre .sizes .1 .0, (c .pre .sizes .1 .1, group-bound _ _ _ _ (c .pre .sizes .0) within
-        (subst (λ (l : List Entry). total (c .args .step) l < 2 ^ 48) f (c .pre .lawful .1 .1 .1)))));
+      sizes = (
+        c .pre .sizes .0,
+        (
+          c .pre .sizes .1 .0,
+          (
+            c .pre .sizes .1 .1,
+            group-bound _ _ _ _ (c .pre .sizes .0) within
+                (subst (λ (l : List Entry). total (c .args .step) l < 2 ^ 48) f (c .pre .lawful .1 .1 .1)),
+          ),
+        ),
+      );
       lawful = (subst Rising f (c .pre .lawful .0), (subst CodesDiffer f (c .pre .lawful .1 .0), subst (Small (c .args .step)) f (c .pre .lawful .1 .1 .0)));
     }
 
@@ -34,8 +42,10 @@ enter-requires c κs =
     let a : length (take (c .args .len + 1 - 0) (c .args .entries .now)) ≡ c .args .len + 1 = ap length (sym (front-is (len + 1) xs)) ∙ length-take-le (len + 1) xs short in
     record {
       sizes = (omega (arith, a), (c .pre .sizes .0, (c .pre .sizes .1 .0, c .pre .sizes .1 .1)));
-      lawful = (subst Rising (sym g) (c .pre .lawful .0),
-        subst (λ (l : List Entry). holds (c .args .code) l ≡ false) (sym (front-is len xs) ∙ sym g) (c .in-None .ensures tt));
+      lawful = (
+        subst Rising (sym g) (c .pre .lawful .0),
+        subst (λ (l : List Entry). holds (c .args .code) l ≡ false) (sym (front-is len xs) ∙ sym g) (c .in-None .ensures tt),
+      );
     }
 
 pub evict-requires : need.evict-requires
@@ -44,12 +54,23 @@ evict-requires c κs =
     let len = c .args .len in
     let f = front-is len xs in
     let a : length (take (c .args .len - 0) (c .args .entries .now)) ≡ c .args .len =
-          ap length (sym f) ∙ length-take-le len xs (omega (arith, c .told-entries, c .pre .places)) in
+    ap length (sym f) ∙ length-take-le len xs (omega (arith, c .told-entries, c .pre .places)) in
     let some : 0 < length (take (c .args .len - 0) (c .args .entries .now)) = omega (arith, a, c .if-len-places .left, c .pre .places) in
     record {
-      sizes = (some, (c .pre .sizes .0, (c .pre .sizes .1 .0, (c .pre .sizes .1 .1,
-        subst (λ (g : ℕ). g < 2 ^ 48) (first-at (take (c .args .len - 0) (c .args .entries .now))) (group-bound _ _ _ 0 (c .pre .sizes .0) some
-          (subst (λ (l : List Entry). total (c .args .step) l < 2 ^ 48) f (c .pre .lawful .1 .1 .1)))))));
+      sizes = (
+        some,
+        (
+          c .pre .sizes .0,
+          (
+            c .pre .sizes .1 .0,
+            (
+              c .pre .sizes .1 .1,
+              subst (λ (g : ℕ). g < 2 ^ 48) (first-at (take (c .args .len - 0) (c .args .entries .now))) (group-bound _ _ _ 0 (c .pre .sizes .0) some
+                  (subst (λ (l : List Entry). total (c .args .step) l < 2 ^ 48) f (c .pre .lawful .1 .1 .1))),
+            ),
+          ),
+        ),
+      );
       lawful = (subst Rising f (c .pre .lawful .0), c .in-None .ensures tt);
     }
 

@@ -3,9 +3,7 @@ use mathlib.Core.List.{List, _++_}
 use Prim.Native.Nat.{_-_, _<_, _≤_, ℕ}
 use native.Mathlib.Omega.{arith}
 use lib.ListN.{drop, length, length-drop, take}
-use Rattle.semi.proofs.Memory.{lawful}
 use Rattle.semi.proofs.Steps.{atLeast-zero, enter-line, enter-passes}
-use Rattle.semi.specs.Line.{passes}
 use Rattle.semi.specs.declared.entry.Entry.{Entry}
 use Rattle.std.proofs.shelf.Lists.{drop-at, length-take-le}
 use Rattle.semi.proofs.line.enter.Needs as need

@@ -1,6 +1,4 @@
-use Rattle.semi.proofs.Memory.{lawful}
 use Rattle.semi.proofs.Steps.{evict-line, evict-passes}
-use Rattle.semi.specs.Line.{passes}
 use Rattle.semi.proofs.line.evict.Needs as need
 
 pub returns : need.returns

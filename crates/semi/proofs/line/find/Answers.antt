@@ -18,9 +18,11 @@ loop-i-again c =
 pub returns-then-eq : need.returns-then-eq
 returns-then-eq c =
     let x = getD (c .args .line .now) (c .loop-i .i) blank .code in
-    let found = same-sym (c .args .code) x ∙ sym (same-told true x (c .args .code) (c .if-eq .ensures tt)) in
-    (c .loop-i-test .taken, c .loop-i .inv,
-      λ d. ap (λ (e : Entry). same (c .args .code) (e .code)) (getD-default (c .args .line .now) (c .loop-i .i) d blank (c .loop-i-test .taken)) ∙ found)
+    let found = same-sym (c .args .code) x ∙ sym (same-told true x (c .args .code) (c .if-eq .ensures tt)) in (
+      c .loop-i-test .taken,
+      c .loop-i .inv,
+      λ d. ap (λ (e : Entry). same (c .args .code) (e .code)) (getD-default (c .args .line .now) (c .loop-i .i) d blank (c .loop-i-test .taken)) ∙ found,
+    )
 
 pub returns : need.returns
 returns c = sym (ap (holds (c .args .code)) (take-all (c .loop-i .i) (c .args .line .now) (c .loop-i-test .left))) ∙ c .loop-i .inv

@@ -3,9 +3,8 @@ use mathlib.Core.List.{_++_}
 use Prim.Native.Nat.{_+_}
 use native.Mathlib.Numerals.{add-one}
 use lib.ListN.{drop, getD, set, take}
-use Rattle.semi.proofs.Memory.{lawful}
 use Rattle.semi.proofs.Steps.{after-at, moves-at, moves-passes, small-at, stays-at, stays-passes}
-use Rattle.semi.specs.Line.{between, blank, passes, placed}
+use Rattle.semi.specs.Line.{between, blank, placed}
 use Rattle.semi.specs.declared.entry.Entry.{Entry}
 use Rattle.semi.proofs.line.grow.Needs as need
 
@@ -33,7 +32,7 @@ returns c =
     let e = c .raise-new .ensures in
     record {
       line = λ n. c .settle .ensures .line ∙ ap (λ (x : Entry). take i xs ++ placed x (drop (i + 1) xs)) e ∙
-        sym (moves-at n _ _ _ _ (c .pre .lawful .1 .0) (c .pre .within) (c .pre .lawful .0) (λ q. c .if-new-old .left (ap (λ (x : Entry). x .group) e ∙ q)));
+          sym (moves-at n _ _ _ _ (c .pre .lawful .1 .0) (c .pre .within) (c .pre .lawful .0) (λ q. c .if-new-old .left (ap (λ (x : Entry). x .group) e ∙ q)));
       passes = λ n. c .settle .ensures .passes ∙ ap (λ (x : Entry). between (getD xs i blank .group) (x .group) (drop (i + 1) xs)) e ∙
-        sym (moves-passes n _ _ _ _ (c .pre .lawful .1 .0) (c .pre .within) (c .pre .lawful .0));
+          sym (moves-passes n _ _ _ _ (c .pre .lawful .1 .0) (c .pre .within) (c .pre .lawful .0));
     }

@@ -1,7 +1,6 @@
-use borrow.Author.Needs.{needs}
 use native.Mathlib.Omega.{arith}
-use mathlib.Core.Path.{_≡_, refl, ap, sym, subst, _∙_}
-use Prim.Native.Nat.{_+_, _-_, _<_, _≤_, _^_, _*_}
+use mathlib.Core.Path.{_≡_, refl, ap, subst, _∙_}
+use Prim.Native.Nat.{_+_, _<_, _^_, _*_}
 use lib.ListN.{length, take, getD}
 use Rattle.std.specs.Text.{digitValue}
 use Rattle.std.specs.Reads.{value, Digits}

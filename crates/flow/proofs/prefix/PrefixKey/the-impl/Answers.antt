@@ -1,4 +1,4 @@
-use mathlib.Core.Path.{_≡_, ap, refl, sym, _∙_}
+use mathlib.Core.Path.{ap, refl, sym, _∙_}
 use Rattle.std.specs.declared.result.Result.the-variants.{Ok, Err}
 use Rattle.flow.proofs.Same.{same-prefix}
 use Rattle.flow.proofs.prefix.PrefixKey.the-impl.Needs as need

@@ -1,4 +1,4 @@
-use mathlib.Core.Path.{refl, sym, ap}
+use mathlib.Core.Path.{sym, ap}
 use Rattle.flow.specs.Refusals.{wording}
 use Rattle.flow.proofs.refusal.Refusal.words.Needs as need
 

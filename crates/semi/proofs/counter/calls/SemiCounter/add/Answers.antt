@@ -1,8 +1,7 @@
 use native.Mathlib.Omega.{arith}
-use lib.ListN.{length, take}
+use lib.ListN.{take}
 use Rattle.semi.proofs.Memory.{lawful, still, still-few, still-order, total-fits}
 use Rattle.semi.proofs.Passes.{passes-short}
-use Rattle.semi.specs.Line.{passes}
 use borrow.Author.Needs.{needs}
 use Rattle.semi.proofs.counter.calls.SemiCounter.add.Needs as need
 
@@ -25,12 +24,22 @@ ghost-self c =
     let w = c .args .weight in
     let k = c .args .code in
     let len′ = c .count-len .result .0 in
-    let xs′ = c .count-len .last .entries in
-    (m .«places_in», (m .«step_in»,
-      ((omega (arith, m .«packets_in» .0, c .if-self-eq-MOST-PACKETS .left), omega (arith, m .«packets_in» .1, c .if-weight-gt-MOST-WEIGHT .left)),
-        (still-few (m .places) (m .step) (m .packets) (m .volume) (m .len) w (m .entries) k len′ xs′ (m .«places_in» .0) (m .«step_in» .0) l line long,
-          (still-order (m .places) (m .step) (m .packets) (m .volume) (m .len) w (m .entries) k len′ xs′ (m .«places_in» .0) (m .«step_in» .0) l line long,
-            (still (m .places) (m .step) (m .packets) (m .volume) (m .len) w (m .entries) k len′ xs′ (m .«places_in» .0) (m .«step_in» .0) l line long .sum, tt))))))
+    let xs′ = c .count-len .last .entries in (
+      m .«places_in»,
+      (
+        m .«step_in»,
+        (
+          (omega (arith, m .«packets_in» .0, c .if-self-eq-MOST-PACKETS .left), omega (arith, m .«packets_in» .1, c .if-weight-gt-MOST-WEIGHT .left)),
+          (
+            still-few (m .places) (m .step) (m .packets) (m .volume) (m .len) w (m .entries) k len′ xs′ (m .«places_in» .0) (m .«step_in» .0) l line long,
+            (
+              still-order (m .places) (m .step) (m .packets) (m .volume) (m .len) w (m .entries) k len′ xs′ (m .«places_in» .0) (m .«step_in» .0) l line long,
+              (still (m .places) (m .step) (m .packets) (m .volume) (m .len) w (m .entries) k len′ xs′ (m .«places_in» .0) (m .«step_in» .0) l line long .sum, tt),
+            ),
+          ),
+        ),
+      ),
+    )
 
 pub returns : need.returns
 returns c =
