@@ -1,21 +1,33 @@
 -- The line of a semi-ordered counter, and what one add does to it. Assumes nothing.
 -- A line is a list of entries, lowest group first. s is the step, n the places.
---   holds        some entry has the code
---   entryOf      the entry with the code, or another where none has it
---   firstGroup   the group of the first entry
---   start        what a code counts from: its entry, nothing while there is room, else the first group and s - 1
---   value        s · group + remainder
---   estimate     the value that a code counts from
---   raised       an entry with a weight more
---   others       the entries that stay when a code is added
---   placed       an entry directly behind the last one whose group is not above its own
---   added        the line after an add
---   between      how many different groups of the entries lie strictly between two
---   passes       the different groups of the others strictly between the start group and the new one
---   Lawful       what a line keeps: at most n entries, groups that never fall, no code twice, remainders below s,
---                and a sum within V + t (s - 1)
---   orderly      the test of the order, the codes and the remainders
---   behindLast   `placed` for lists in any order
+--   blank         an entry of zeros
+--   holds         some entry has the code
+--   entryOf       the entry with the code, or another where none has it
+--   without       the line without the entry of a code
+--   replaced      the line with an entry in the place of the one of its code
+--   placed        the line with an entry directly behind the last one whose group is not above its own
+--   firstGroup    the group of the first entry
+--   rest          the line without its first entry
+--   entering      what an absent code counts from: nothing while there is room, else the first group and s - 1
+--   start         what a code counts from: its entry, or that
+--   value         the number that an entry stands for, s · group + remainder
+--   estimate      the value that a code counts from
+--   raised        the entry of a code that counted from another, with a weight more
+--   others        the entries that stay when a code is added
+--   added         the line after an add
+--   hasGroup      some entry has the group
+--   between       how many different groups of the entries lie strictly between two
+--   passes        the different groups of the others strictly between the start group and the new one
+--   AtLeast       each group is at least a number
+--   Rising        the groups never fall
+--   CodesDiffer   no two entries have one code
+--   Small         each remainder is below the step
+--   total         the sum of the greatest numbers that entries of these groups can stand for
+--   Lawful        what a line keeps after t packets of total weight v
+--   atLeast       the test of AtLeast
+--   orderly       the test of Rising, CodesDiffer and Small together
+--   someUpTo      some entry's group is not above a number
+--   behindLast    `placed` for lists in any order
 use mathlib.Core.Path.{_≡_}
 use mathlib.Core.Bool.{Bool, true, false, cond, _&&_, not}
 use mathlib.Core.List.{List, [], _∷_}

@@ -5,7 +5,8 @@
 --   raised     the places with the code's count raised
 --   entered    the places with the code in the lowest empty one
 --   least      the smallest of a weight and the counts
---   lowered    the places with every count lowered, empty where nothing is left
+--   less       one place with its count lowered, empty where nothing is left
+--   lowered    the places with every count lowered
 --   deducted   how much an add raises the deduction
 --   added      the places after an add
 --   counted    the sum of the counts

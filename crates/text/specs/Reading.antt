@@ -5,6 +5,7 @@
 --   front       how many elements in front pass a test
 --   lineOf      the first line, without its newline
 --   afterLine   what follows the first newline
+--   unspaced    the text without the spaces in front
 --   wordOf      the first word, empty where there is none
 --   afterWord   what follows the first word
 use mathlib.Core.Bool.{Bool, cond, not, _||_}

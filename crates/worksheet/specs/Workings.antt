@@ -1,5 +1,6 @@
 -- How a code comes to its entry of a semi-ordered counter. Assumes nothing.
---   wayOf   it is held, it enters a line with room, or it evicts the first entry
+--   evicting   it evicts the first entry
+--   wayOf      it is held, it enters a line with room, or it evicts the first entry
 use mathlib.Core.Bool.{cond}
 use mathlib.Core.List.{List, [], _∷_}
 use Prim.Native.Nat.{ℕ}

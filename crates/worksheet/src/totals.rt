@@ -68,10 +68,11 @@ impl Totals {
                 Ok(())
             }
             None => {
-                self.flows.push(Total {
-                    code,
-                    volume: weight,
-                })?;
+                self.flows
+                    .push(Total {
+                        code,
+                        volume: weight,
+                    })?;
                 Ok(())
             }
         }

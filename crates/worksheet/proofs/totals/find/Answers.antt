@@ -11,10 +11,12 @@ abbrev none : Total
 none = record { code = record { high = 0; low = 0 }; volume = 0 }
 
 pub returns-then-same : need.returns-then-same
-returns-then-same c =
-    (c .loop-i-test .taken, c .loop-i .inv,
-      λ d. ap (λ (t : Total). same (t .code) (c .args .code)) (getD-default (c .args .flows .now) (c .loop-i .i) d none (c .loop-i-test .taken)) ∙
-      sym (c .if-same .ensures tt))
+returns-then-same c = (
+  c .loop-i-test .taken,
+  c .loop-i .inv,
+  λ d. ap (λ (t : Total). same (t .code) (c .args .code)) (getD-default (c .args .flows .now) (c .loop-i .i) d none (c .loop-i-test .taken)) ∙
+      sym (c .if-same .ensures tt),
+)
 
 pub loop-i-again : need.loop-i-again
 loop-i-again c =
