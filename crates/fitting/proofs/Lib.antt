@@ -1,2 +1,3 @@
 pub mod Carried
+pub mod Firsts
 pub mod Same

@@ -15,7 +15,7 @@ ghost use Rattle.semi.specs.declared.entry.Entry.{Entry as Item};
 ghost use Rattle.flow.specs.Codes.{same};
 
 // The place of the entry with this code.
-pub(crate) fn find(line: &[Entry], code: Code) -> Option<usize>
+fn find(line: &[Entry], code: Code) -> Option<usize>
     ensures { λ r. ⌜ BySome r (holds code (now (line .entry)) ≡ false) (λ i. (i < length (now (line .entry))) × (holds code (take i (now (line .entry))) ≡ false) × ((d : Item) → same code (getD (now (line .entry)) i d .code) ≡ true)) ⌝ }
 {
     for (i, e) in line.iter().enumerate() {
@@ -42,7 +42,7 @@ fn is_pass(last: u64, next: u64, new: u64) -> bool
 
 // Puts `new` in the place of the entry at `at`, and moves it behind each later one whose group is not above its own.
 // Answers how many different groups above `from` and below its own it passes.
-pub(crate) fn settle(line: &mut [Entry], at: usize, from: u64, new: Entry) -> usize
+fn settle(line: &mut [Entry], at: usize, from: u64, new: Entry) -> usize
     requires within { ⌜ at < length (now line) ⌝ }
     requires order { ⌜ Rising (drop (at + 1) (now line)) ⌝ ∗ ⌜ AtLeast from (drop (at + 1) (now line)) ⌝ }
     ensures line { λ _. ⌜ now (line .exit) ≡ take at (now (line .entry)) ++ placed new (drop (at + 1) (now (line .entry))) ⌝ }
@@ -78,7 +78,7 @@ fn raise(code: Code, group: u64, remainder: u32, step: u32, weight: u32) -> Entr
 }
 
 // Adds to the code of the entry at `at`.
-pub(crate) fn grow(line: &mut [Entry], at: usize, step: u32, weight: u32) -> usize
+fn grow(line: &mut [Entry], at: usize, step: u32, weight: u32) -> usize
     requires within { ⌜ at < length (now line) ⌝ }
     requires sizes { ⌜ 0 < step ⌝ ∗ ⌜ step < 2 ^ 22 ⌝ ∗ ⌜ weight < 2 ^ 21 ⌝ ∗ ⌜ getD (now line) at blank .group < 2 ^ 48 ⌝ }
     requires lawful { ⌜ Rising (now line) ⌝ ∗ ⌜ CodesDiffer (now line) ⌝ ∗ ⌜ Small step (now line) ⌝ }
@@ -105,7 +105,7 @@ fn settle_first(line: &mut [Entry], from: u64, new: Entry) -> usize
 }
 
 // Adds to a code that takes the place of the first entry of a full line.
-pub(crate) fn evict(line: &mut [Entry], step: u32, code: Code, weight: u32) -> usize
+fn evict(line: &mut [Entry], step: u32, code: Code, weight: u32) -> usize
     requires sizes { ⌜ 0 < length (now line) ⌝ ∗ ⌜ 0 < step ⌝ ∗ ⌜ step < 2 ^ 22 ⌝ ∗ ⌜ weight < 2 ^ 21 ⌝ ∗ ⌜ firstGroup (now line) < 2 ^ 48 ⌝ }
     requires lawful { ⌜ Rising (now line) ⌝ ∗ ⌜ holds code (now line) ≡ false ⌝ }
     ensures line { λ _. ⌜ ((n : ℕ) → n ≤ length (now (line .entry)) → now (line .exit) ≡ added n step (now (line .entry)) code weight) ⌝ }
@@ -116,7 +116,7 @@ pub(crate) fn evict(line: &mut [Entry], step: u32, code: Code, weight: u32) -> u
 }
 
 // Adds to a code that enters the line; the last cell is free.
-pub(crate) fn enter(cells: &mut [Entry], step: u32, code: Code, weight: u32) -> usize
+fn enter(cells: &mut [Entry], step: u32, code: Code, weight: u32) -> usize
     requires sizes { ⌜ 0 < length (now cells) ⌝ ∗ ⌜ 0 < step ⌝ ∗ ⌜ step < 2 ^ 22 ⌝ ∗ ⌜ weight < 2 ^ 21 ⌝ }
     requires lawful { ⌜ Rising (take (length (now cells) - 1) (now cells)) ⌝ ∗ ⌜ holds code (take (length (now cells) - 1) (now cells)) ≡ false ⌝ }
     ensures line { λ _. ⌜ ((n : ℕ) → length (now (cells .entry)) ≤ n → now (cells .exit) ≡ added n step (take (length (now (cells .entry)) - 1) (now (cells .entry))) code weight) ⌝ }

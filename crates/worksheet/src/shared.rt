@@ -1,4 +1,8 @@
 // The working of an add to a shared-deduction counter.
+ghost use mathlib.Core.Path.{_≡_};
+ghost use mathlib.Core.List.{_∷_, []};
+ghost use Rattle.shared.specs.Places.{countOf, holds};
+ghost use Rattle.shared.specs.Shared.{sharedMeaning};
 use crate::worked::Worked;
 use flow::code::Code;
 use flow::counter::FrameCounter;
@@ -17,7 +21,9 @@ pub struct Before {
 }
 
 // The code's count, 0 where no place has it.
-fn count_of(counter: &SharedDeduction, code: Code) -> u64 {
+fn count_of(counter: &SharedDeduction, code: Code) -> u64
+    ensures { λ r. ⌜ r ≡ countOf code (sharedMeaning .model (now (counter .entry)) .held) ⌝ }
+{
     counter.estimate(code).saturating_sub(counter.deduction())
 }
 
@@ -33,9 +39,11 @@ fn least_count(places: &[Place]) -> u64 {
 }
 
 // Whether the place holds the code.
-fn is_of(place: &Place, code: Code) -> bool {
+fn is_of(place: &Place, code: Code) -> bool
+    ensures { λ r. ⌜ r ≡ holds code (now (place .entry) ∷ []) ⌝ }
+{
     match place {
-        Place::Held { code: held, .. } => held.same(code),
+        Place::Held { code: held, .. } => code.same(*held),
         Place::Empty => false,
     }
 }
