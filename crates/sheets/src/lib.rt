@@ -9,7 +9,10 @@ ghost use mathlib.Core.Path.{_≡_};
 ghost use mathlib.Core.List.{List, _∷_, []};
 ghost use Rattle.semi.specs.Line.{Rising, placed, behindLast};
 ghost use Rattle.semi.specs.declared.entry.Entry.{Entry as Item};
+ghost use Rattle.flow.specs.Meanings.{addLeaves};
+ghost use Rattle.semi.specs.Semi.{semiMeaning};
 ghost use Rattle.sheets.specs.Sheets.{CounterSheets};
+ghost use Rattle.sheets.specs.Sheets.{C as FlowC};
 
 const FLOW_A: Code = Code { high: 0, low: 1 };
 
@@ -18,6 +21,13 @@ const FLOW_B: Code = Code { high: 0, low: 2 };
 const FLOW_C: Code = Code { high: 0, low: 3 };
 
 const FLOW_E: Code = Code { high: 0, low: 5 };
+
+// The last packet of the semi-ordered sheet, C 30.
+fn add_last(counter: &mut SemiOrdered)
+    ensures { λ _. ⌜ semiMeaning .model (now (counter .exit)) ≡ addLeaves semiMeaning (semiMeaning .model (now (counter .entry))) FlowC 30 ⌝ }
+{
+    let _ = counter.add(FLOW_C, 30);
+}
 
 // The semi-ordered sheet: the estimates of A, B and an absent flow after A 7 and B 25, of C and A after C 3, of C after C 30.
 fn semi_sheet() -> [u64; 6]
@@ -34,7 +44,7 @@ fn semi_sheet() -> [u64; 6]
     );
     let _ = counter.add(FLOW_C, 3);
     let (c, evicted) = (counter.estimate(FLOW_C), counter.estimate(FLOW_A));
-    let _ = counter.add(FLOW_C, 30);
+    add_last(&mut counter);
     [a, b, absent, c, evicted, counter.estimate(FLOW_C)]
 }
 
