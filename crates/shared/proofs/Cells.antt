@@ -3,13 +3,14 @@ use mathlib.Core.Path.{_≡_, sym, ap, _∙_}
 use mathlib.Core.Bool.{Bool, true, false, cond, _||_}
 use mathlib.Core.List.{List, _++_}
 use Prim.Native.Nat.{ℕ, _-_, _≤_}
-use lib.ListN.{length, take}
+use lib.ListN.{length, take, replicate}
 use Rattle.std.specs.declared.option.Option.{Option}
 use Rattle.std.specs.declared.option.Option.the-variants.{Some, None}
 use Rattle.std.specs.Options.{isSome, valueOr}
-use Rattle.std.proofs.shelf.Lists.{length-take-le, take-at}
+use Rattle.std.proofs.shelf.Lists.{length-take-le, length-replicate, take-at}
 use Rattle.flow.specs.declared.code.Code.{Code}
 use Rattle.shared.specs.declared.place.Place.{Place}
+use Rattle.shared.specs.declared.place.Place.the-variants.{Empty}
 use Rattle.shared.specs.declared.counter.SharedDeduction.{SharedDeduction}
 use Rattle.shared.specs.Places.{holds, anyEmpty, least, deducted, added}
 use Rattle.shared.specs.Shared.{SharedSound, sharedMeaning}
@@ -30,6 +31,12 @@ pub places-held : (n : ℕ) (cells out post : List Place) (k : Code) (w : ℕ) �
 places-held n cells out post k w short e =
     let at = e ∙ ap (λ (ps : List Place). added ps k w) (sym (front-is n cells)) in
     take-at out post n (ap length at ∙ length-added (take n cells) k w ∙ length-take-le n cells short) ∙ at
+
+-- the first n cells, emptied, with others behind them
+pub places-emptied : (n : ℕ) (cells out post : List Place) → n ≤ length cells → out ≡ replicate (length (take (n - 0) cells)) Empty → take n (out ++ post) ≡ replicate n Empty
+places-emptied n cells out post short e =
+    let at = e ∙ ap (λ (m : ℕ). replicate m Empty) (ap length (sym (front-is n cells)) ∙ length-take-le n cells short) in
+    take-at out post n (ap length at ∙ length-replicate n Empty) ∙ at
 
 -- what the step to the places comes to: the places, how much the deduction rises, and the passes
 pub record Stepped (x : SharedDeduction) (k : Code) (w : ℕ) (out : List Place) (rise passes : ℕ) : Type 0 where

@@ -6,6 +6,7 @@ use mathlib.Core.List.{List, [], _∷_}
 use Prim.Native.Nat.{ℕ, _+_, _-_, _*_, _≤_, _<_, min}
 use native.Mathlib.Omega.{arith}
 use native.Mathlib.Nat.{suc-mul}
+use lib.Dec.{ltb}
 use lib.ListN.{length}
 use Rattle.std.proofs.shelf.Tests.{cases-lt}
 use Rattle.std.proofs.shelf.Ways.{tells}
@@ -38,6 +39,12 @@ pub counted-entered : (k : Code) (w : ℕ) (ps : List Place) → anyEmpty ps ≡
 counted-entered k w [] h = grind arith
 counted-entered k w (Empty ∷ ps) h = omega arith
 counted-entered k w (Held j c ∷ ps) h = grind (arith, counted-entered k w ps)
+
+-- a place has the code exactly where its count is above 0
+pub held-counts : (k : Code) (ps : List Place) → tidy ps ≡ true → ltb 0 (countOf k ps) ≡ holds k ps
+held-counts k [] t = refl
+held-counts k (Empty ∷ ps) t = held-counts k ps t
+held-counts k (Held j c ∷ ps) t = grind (arith, held-counts k ps)
 
 -- each count is at least m
 abbrev pub Above : ℕ → List Place → Type 0

@@ -53,8 +53,20 @@ fn enter(places: &mut [Place], code: Code, count: u64) -> bool
     false
 }
 
+// Whether some place is empty.
+pub(crate) fn any_empty(places: &[Place]) -> bool
+    ensures { λ r. ⌜ r ≡ anyEmpty (now (places .entry)) ⌝ }
+{
+    for place in places {
+        if let Place::Empty = place {
+            return true;
+        }
+    }
+    false
+}
+
 // The smallest of the weight and the counts.
-fn least_of(places: &[Place], weight: u64) -> u64
+pub(crate) fn least_of(places: &[Place], weight: u64) -> u64
     ensures { λ r. ⌜ r ≡ least weight (now (places .entry)) ⌝ }
 {
     let mut smallest = weight;

@@ -1,8 +1,7 @@
 // The working of an add to a shared-deduction counter.
 ghost use mathlib.Core.Path.{_≡_};
-ghost use mathlib.Core.List.{_∷_, []};
-ghost use Rattle.shared.specs.Places.{countOf, holds};
 ghost use Rattle.shared.specs.Shared.{sharedMeaning};
+ghost use Rattle.worksheet.specs.Workings.{sharedWayOf, lost};
 use crate::worked::Worked;
 use flow::code::Code;
 use flow::counter::FrameCounter;
@@ -12,43 +11,58 @@ use shared::SharedDeduction;
 use std::alloc::AllocError;
 use std::io;
 
+// How a code comes to its count.
+#[derive(Clone, Copy)]
+pub enum Way {
+    Held,
+    Takes,
+    Shares,
+}
+
+// How the code comes to its count in the counter.
+fn way_of(counter: &SharedDeduction, code: Code) -> Way
+    ensures { λ r. ⌜ r ≡ sharedWayOf (sharedMeaning .model (now (counter .entry)) .held) code ⌝ }
+{
+    if counter.holds(code) {
+        return Way::Held;
+    }
+    if counter.has_room() {
+        return Way::Takes;
+    }
+    Way::Shares
+}
+
 // What the working of an add needs of the counter before it.
 #[derive(Drop)]
 pub struct Before {
+    way: Way,
     count: u64,
+    least: u64,
     deduction: u64,
     places: Vec<Place>,
 }
 
-// The code's count, 0 where no place has it.
-fn count_of(counter: &SharedDeduction, code: Code) -> u64
-    ensures { λ r. ⌜ r ≡ countOf code (sharedMeaning .model (now (counter .entry)) .held) ⌝ }
+// The code that had its place before and has it no more.
+fn lost(old: &Place, new: &Place) -> Option<Code>
+    ensures { λ r. ⌜ r ≡ lost (now (old .entry)) (now (new .entry)) ⌝ }
 {
-    counter.estimate(code).saturating_sub(counter.deduction())
-}
-
-// The least count of the places.
-fn least_count(places: &[Place]) -> u64 {
-    let mut least = u64::MAX;
-    for place in places {
-        if let Place::Held { count, .. } = place {
-            least = least.min(*count);
-        }
-    }
-    least
-}
-
-// Whether the place holds the code.
-fn is_of(place: &Place, code: Code) -> bool
-    ensures { λ r. ⌜ r ≡ holds code (now (place .entry) ∷ []) ⌝ }
-{
-    match place {
-        Place::Held { code: held, .. } => code.same(*held),
-        Place::Empty => false,
+    match (old, new) {
+        (Place::Empty, _) => None,
+        (Place::Held { code, .. }, Place::Held { code: held, .. }) if code.same(*held) => None,
+        (Place::Held { code, .. }, _) => Some(*code),
     }
 }
 
-// Prints which rule applied, and its reckoning.
+// Prints which rule applies.
+fn show_way(rt: &LibcRuntime, way: Way) -> io::Result<()> {
+    match way {
+        Way::Held => println!(rt, "  held: its count rises"),
+        Way::Takes => println!(rt, "  absent, and a place is empty: it takes the lowest"),
+        Way::Shares => println!(rt, "  absent, and no place is empty: all counts fall"),
+    }
+}
+
+// Prints the reckoning of the new count, or of what all places share.
 fn show_reckoning(
     rt: &LibcRuntime,
     before: &Before,
@@ -56,22 +70,19 @@ fn show_reckoning(
     count: u64,
     deduction: u64,
 ) -> io::Result<()> {
-    let old = before.count;
-    let from = before.deduction;
-    if old > 0 {
-        println!(rt, "  held: its count rises")?;
-    } else if deduction == from {
-        println!(rt, "  absent, and a place is empty: it takes the lowest")?;
-    } else {
-        println!(rt, "  absent, and no place is empty: all counts fall")?;
-    }
+    let Before {
+        way,
+        count: old,
+        least,
+        deduction: from,
+        ..
+    } = before;
     println!(rt, "  before:   count {old}, deduction {from}")?;
-    if deduction == from {
+    if let Way::Held | Way::Takes = way {
         return println!(rt, "  count:    {old} + {weight} = {count}");
     }
-    let least = least_count(&before.places);
-    let fall = deduction.saturating_sub(from);
-    let left = u64::from(weight).saturating_sub(fall);
+    let fall = u64::from(weight).min(*least);
+    let left = u64::from(weight) - fall;
     println!(
         rt,
         "  fall:     the smaller of the weight {weight} and the least count {least} is {fall}"
@@ -86,12 +97,10 @@ fn show_reckoning(
 fn show_evicted(rt: &LibcRuntime, before: &[Place], after: &[Place]) -> io::Result<()> {
     let mut some = false;
     for (old, new) in before.iter().zip(after.iter()) {
-        if let Place::Held { code, .. } = old {
-            if !is_of(new, *code) {
-                some = true;
-                let flow = code.low;
-                println!(rt, "  evicted:  flow {flow}")?;
-            }
+        if let Some(code) = lost(old, new) {
+            some = true;
+            let flow = code.low;
+            println!(rt, "  evicted:  flow {flow}")?;
         }
     }
     if some {
@@ -111,7 +120,9 @@ pub impl Worked for SharedDeduction as SharedWorked {
     fn before(&self, rt: &LibcRuntime, code: Code) -> Result<Before, AllocError> {
         let places = self.held().to_vec(rt.alloc())?;
         Ok(Before {
-            count: count_of(self, code),
+            way: way_of(self, code),
+            count: self.count(code),
+            least: self.least_count(),
             deduction: self.deduction(),
             places,
         })
@@ -125,7 +136,8 @@ pub impl Worked for SharedDeduction as SharedWorked {
         weight: u32,
     ) -> io::Result<()> {
         let deduction = self.deduction();
-        let count = count_of(self, code);
+        let count = self.count(code);
+        show_way(rt, before.way)?;
         show_reckoning(rt, before, weight, count, deduction)?;
         if count > 0 {
             println!(rt, "  after:    count {count}, deduction {deduction}")?;

@@ -10,10 +10,12 @@ use flow::limits::MOST_WEIGHT;
 use flow::refusal::Refusal;
 ghost use mathlib.Core.Path.{_≡_};
 ghost use mathlib.Core.Bool.{cond};
-ghost use Prim.Native.Nat.{_≤_, _<_};
+ghost use Prim.Native.Nat.{_-_, _^_, _≤_, _<_};
+ghost use lib.Dec.{ltb};
 ghost use Rattle.std.specs.Options.{isSome, valueOr};
 ghost use Rattle.flow.specs.Answers.{told, Unchanged};
 ghost use Rattle.flow.specs.Meanings.{addAnswer, addLeaves};
+ghost use Rattle.shared.specs.Places.{holds, countOf, anyEmpty, least};
 ghost use Rattle.shared.specs.Shared.{sharedMeaning, sharedOpened};
 
 // The only step of such a counter.
@@ -29,21 +31,14 @@ fn cost(shared: Option<u64>, places: usize) -> (u64, usize)
     }
 }
 
-impl SharedDeduction {
-    // A counter as opened with so many places.
-    fn opened(places: usize) -> SharedDeduction
-        requires { ⌜ 0 < places ⌝ ∗ ⌜ places ≤ 256 ⌝ }
-        ensures { λ r. ⌜ sharedMeaning .model r ≡ sharedOpened places ⌝ }
-    {
-        SharedDeduction {
-            places,
-            packets: 0,
-            volume: 0,
-            deduction: 0,
-            cells: [Place::Empty; MOST_PLACES],
-        }
-    }
+// Whether a count is that of a code which has a place.
+fn is_of_held(count: u64) -> bool
+    ensures { λ r. ⌜ r ≡ ltb 0 count ⌝ }
+{
+    count > 0
+}
 
+impl SharedDeduction {
     // A counter as opened with 1 and 1.
     pub fn new() -> SharedDeduction
         ensures opened { λ r. ⌜ sharedMeaning .model r ≡ sharedOpened 1 ⌝ }
@@ -56,7 +51,25 @@ impl SharedDeduction {
     fn smallest() -> SharedDeduction
         ensures { λ r. ⌜ sharedMeaning .model r ≡ sharedOpened 1 ⌝ }
     {
-        SharedDeduction::opened(1)
+        SharedDeduction {
+            places: 1,
+            packets: 0,
+            volume: 0,
+            deduction: 0,
+            cells: [Place::Empty; MOST_PLACES],
+        }
+    }
+
+    // Empties the counter, with so many places.
+    fn reset(&mut self, places: usize)
+        requires { ⌜ 0 < places ⌝ ∗ ⌜ places ≤ 256 ⌝ }
+        ensures { λ _. ⌜ sharedMeaning .model (now (self .exit)) ≡ sharedOpened places ⌝ }
+    {
+        self.cells[0..places].fill(Place::Empty);
+        self.places = places;
+        self.packets = 0;
+        self.volume = 0;
+        self.deduction = 0;
     }
 
     // The deduction.
@@ -64,6 +77,34 @@ impl SharedDeduction {
         ensures { λ r. ⌜ r ≡ sharedMeaning .model (now (self .entry)) .deduction ⌝ }
     {
         self.deduction
+    }
+
+    // The code's count, 0 where no place has it.
+    pub fn count(&self, code: Code) -> u64
+        ensures { λ r. ⌜ r ≡ countOf code (sharedMeaning .model (now (self .entry)) .held) ⌝ }
+    {
+        places::count_of(self.held(), code)
+    }
+
+    // Whether some place has the code.
+    pub fn holds(&self, code: Code) -> bool
+        ensures { λ r. ⌜ r ≡ holds code (sharedMeaning .model (now (self .entry)) .held) ⌝ }
+    {
+        is_of_held(self.count(code))
+    }
+
+    // Whether some place is empty.
+    pub fn has_room(&self) -> bool
+        ensures { λ r. ⌜ r ≡ anyEmpty (sharedMeaning .model (now (self .entry)) .held) ⌝ }
+    {
+        places::any_empty(self.held())
+    }
+
+    // The least count, and 2^64 - 1 where every place is empty.
+    pub fn least_count(&self) -> u64
+        ensures { λ r. ⌜ r ≡ least (2 ^ 64 - 1) (sharedMeaning .model (now (self .entry)) .held) ⌝ }
+    {
+        places::least_of(self.held(), u64::MAX)
     }
 
     // The places, in their order.
@@ -84,12 +125,12 @@ pub impl FrameCounter for SharedDeduction as SharedCounter {
         if step != STEP {
             return Err(Refusal::StepOutOfRange);
         }
-        *self = SharedDeduction::opened(places);
+        self.reset(places);
         Ok(())
     }
 
     fn flush(&mut self) {
-        *self = SharedDeduction::opened(self.places);
+        self.reset(self.places);
     }
 
     fn add(&mut self, code: Code, weight: u32) -> Result<usize, Refusal>
@@ -113,7 +154,7 @@ pub impl FrameCounter for SharedDeduction as SharedCounter {
     }
 
     fn estimate(&self, code: Code) -> u64 {
-        places::count_of(self.held(), code) + self.deduction
+        self.count(code) + self.deduction
     }
 
     fn places(&self) -> usize {

@@ -18,7 +18,7 @@ pub returns-in-Ok : need.returns-in-Ok
 returns-in-Ok c =
     let n = c .in-Continue-low .ensures tt in
     let v = ten-digits (c .args .word .now) (n .0 .1) (c .if-word-gt-NAME-DIGITS .left) in
-    omega (arith, ap (λ (k : Code). k .low) (c .in-Ok .ensures tt), n .1, v)
+    ((n .0, c .if-word-gt-NAME-DIGITS .left), omega (arith, ap (λ (k : Code). k .low) (c .in-Ok .ensures tt), n .1, v))
 
 pub returns-in-Err : need.returns-in-Err
 returns-in-Err c = λ h.
