@@ -1,7 +1,8 @@
 // Account keys: ten ASCII digits.
 ghost use Rattle.std.specs.Prelude.{◌≡◌, ◌^◌, ◌<◌, length};
 ghost use Rattle.std.specs.Str.Parse.{digits_value, AllDigits};
-ghost use Rattle.std.proofs.Common.{rules, arith};
+ghost use Rattle.std.proofs.Common.{arith};
+ghost use Rattle.flow.specs.Keys.{comes_back};
 
 use crate::code::Code;
 use crate::key::FlowKey;
@@ -26,9 +27,9 @@ impl FlowKey for Account {
 
     ghost spells = { λ k bytes. (length bytes ≡ 10) × AllDigits 10 bytes × (k.number ≡ digits_value 10 bytes) };
 
-    ghost back = { first_of (Prim.search rules, Prim.grind (arith, Self.row.coded.inj)) };
+    ghost back = { comes_back _ (λ x k h. Prim.grind (arith, Self.row.coded.inj)) };
 
-    ghost one = { first_of (Prim.search rules, Prim.grind (arith, Self.row.coded.inj)) };
+    ghost one = { Prim.grind (arith, Self.row.coded.inj) };
 
     ghost wide = { λ k bytes h. h.0 };
 

@@ -49,7 +49,7 @@ pub trait FlowKey: Sized {
 
 // Whether two keys have one code.
 fn share_a_code<K: FlowKey>(a: &K, b: &K) -> bool
-    ensures { result ≡ same (coded a.now) (coded b.now) }
+    ensures { result ≡ same (K.coded a.now) (K.coded b.now) }
 {
     a.code().same(b.code())
 }
@@ -57,7 +57,7 @@ fn share_a_code<K: FlowKey>(a: &K, b: &K) -> bool
 // Whether two keys are of one flow: their codes tell.
 pub fn same_flow<K: FlowKey>(a: &K, b: &K) -> bool
     ensures same { MatchBool result (a.now ≡ b.now) (a.now ≢ b.now) }
-    ensures no_two_keys_share_a_code { (j k : K) → coded j ≡ coded k → j ≡ k }
+    ensures no_two_keys_share_a_code { (j k : K) → K.coded j ≡ K.coded k → j ≡ k }
 {
     share_a_code(a, b)
 }

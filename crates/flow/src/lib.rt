@@ -1,4 +1,6 @@
 // Flow keys, refusals, and what every frame counter promises.
+#![tactic(auto)]
+
 pub mod account;
 pub mod code;
 pub mod counter;

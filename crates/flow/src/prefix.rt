@@ -1,6 +1,7 @@
 // IPv4 prefix keys: four bytes of address and one of length.
 ghost use Rattle.std.specs.Prelude.{◌≡◌, ◌+◌, ◌-◌, ◌*◌, ◌%◌, ◌^◌, ◌<◌, ◌≤◌, length, MatchBool, ◌≢◌, slice_index};
-ghost use Rattle.std.proofs.Common.{rules, arith};
+ghost use Rattle.std.proofs.Common.{arith};
+ghost use Rattle.flow.specs.Keys.{comes_back};
 
 use crate::code::Code;
 use crate::key::FlowKey;
@@ -36,9 +37,9 @@ impl FlowKey for Prefix {
 
     ghost spells = { λ k bytes. (length bytes ≡ 5) × (k.address ≡ slice_index bytes 0 * 16777216 + slice_index bytes 1 * 65536 + slice_index bytes 2 * 256 + slice_index bytes 3) × (k.len ≡ slice_index bytes 4) };
 
-    ghost back = { first_of (Prim.search rules, Prim.grind (arith, Self.row.coded.inj)) };
+    ghost back = { comes_back _ (λ x k h. Prim.grind (arith, Self.row.coded.inj)) };
 
-    ghost one = { first_of (Prim.search rules, Prim.grind (arith, Self.row.coded.inj)) };
+    ghost one = { Prim.grind (arith, Self.row.coded.inj) };
 
     ghost wide = { λ k bytes h. h.0 };
 

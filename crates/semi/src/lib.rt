@@ -1,4 +1,6 @@
 // The semi-ordered counter.
+#![tactic(auto)]
+
 pub mod counter;
 pub mod entry;
 mod line;

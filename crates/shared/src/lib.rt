@@ -1,4 +1,6 @@
 // The shared-deduction counter.
+#![tactic(auto)]
+
 pub mod counter;
 pub mod place;
 mod places;

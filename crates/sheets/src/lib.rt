@@ -1,4 +1,6 @@
 // The worked sheets of the counters: proved of the rules, and run.
+#![tactic(auto)]
+
 ghost use Rattle.std.specs.Prelude.{◌≡◌, List, ◌∷◌, []};
 ghost use Rattle.semi.specs.Line.{Rising, placed, behind_last};
 ghost use Rattle.semi.specs.declared.entry.Entry.{Entry as Item};

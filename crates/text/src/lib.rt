@@ -1,4 +1,6 @@
 // Lines, words and numbers of a text input.
+#![tactic(auto)]
+
 ghost use Rattle.std.specs.Prelude.{◌≡◌, ◌+◌, ◌-◌, ◌*◌, ◌^◌, min, MatchOption};
 ghost use Rattle.std.specs.Str.Parse.{digits_value, IsNumeral};
 ghost use Rattle.text.specs.Reading.{is_space, in_line, in_word, front, line_of, after_line, word_of, after_word};

@@ -1,4 +1,6 @@
 // Prints worked sheets of the packets on standard input.
+#![tactic(auto)]
+
 mod division;
 mod line;
 mod semi;

@@ -33,8 +33,8 @@ shared = record {
 
 pub returns : goal.returns
 returns c = record {
-  sheets-stand = record { semi = semi; shared = shared };
-  placed-behind-the-last = placed_last;
-  semi-ordered-runs = c.semi-sheet.ensures;
-  shared-deduction-runs = c.shared-sheet.ensures;
+  sheets_stand = record { semi = semi; shared = shared };
+  placed_behind_the_last = placed_last;
+  semi_ordered_runs = c.semi_sheet.ensures;
+  shared_deduction_runs = c.shared_sheet.ensures;
 }

@@ -27,5 +27,5 @@ loop-b-preserved c =
 pub returns : goal.returns
 returns c =
     let e = take_all c.loop-b.b-index c.args.word.now c.loop-b-test.false in
-    let some : 0 < length c.args.word.now = omega (arith, eqb-false _ _ (sym c.if-is-empty.ensures)) in
+    let some : 0 < length c.args.word.now = omega (arith, eqb-false _ _ (sym c.if-is_empty.ensures)) in
     subst (λ (l : List ℕ). ((0 < length l) × AllDigits 10 l) × (c.loop-b.n ≡ min (digits_value 10 l) (2 ^ 64 - 1))) e ((rw e some, c.loop-b.invariant.0), c.loop-b.invariant.1)

@@ -5,16 +5,16 @@ use Rattle.fitting.proofs.first.first_estimate.Goals as goal
 pub returns : goal.returns
 returns g c =
     let m = g.C.FrameCounter.meaning in
-    let opened = c.in-ok-prepare.ensures in
-    let added = c.in-ok-add.ensures in
+    let opened = c.in_ok-prepare.ensures in
+    let added = c.in_ok-add.ensures in
     first_taken m g.met.C.FrameCounter.opens g.met.C.FrameCounter.adds (m.model c.args.counter.now) (m.model c.prepare.new.counter) c.args.places c.args.step opened.answer opened.state
     (m.model c.add.new.self) c.args.code c.args.weight _ c.estimate.result added.answer added.state c.estimate.ensures
 
-pub returns-in-err-add : goal.returns-in-err-add
-returns-in-err-add g c =
+pub returns-in_err-add : goal.returns-in_err-add
+returns-in_err-add g c =
     let m = g.C.FrameCounter.meaning in
-    let opened = c.in-ok-prepare.ensures in
-    let refusal = err_from_is_err_and c.from-residual-in-err-add.result c.from-residual-in-err-add.ensures.1 in
+    let opened = c.in_ok-prepare.ensures in
+    let refusal = err_from_is_err_and c.from-residual-in_err-add.result c.from-residual-in_err-add.ensures.1 in
     rw (refusal.1, refusal.2)
     (first_refused m g.met.C.FrameCounter.opens g.met.C.FrameCounter.adds (m.model c.args.counter.now) (m.model c.prepare.new.counter) c.args.places c.args.step opened.answer opened.state
-    c.args.code c.args.weight _ c.in-err-add.ensures.answer)
+    c.args.code c.args.weight _ c.in_err-add.ensures.answer)

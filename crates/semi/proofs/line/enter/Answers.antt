@@ -13,15 +13,15 @@ behind xs out h e =
 few : (xs : List Entry) (n : ℕ) → 0 < length xs → length xs ≤ n → length (take (length xs - 1) xs) < n
 few xs n h q = omega (arith, length-take-le (length xs - 1) xs (omega arith))
 
-pub settle-first-requires : goal.settle-first-requires
-settle-first-requires c =
-    let b = behind _ _ c.requires.sizes.0 c.rotate-right.ensures.after in
-    record { within = omega (arith, c.rotate-right.ensures.len, c.requires.sizes.0); order = rw b (c.requires.lawful.0, at_least_zero _) }
+pub settle_first-requires : goal.settle_first-requires
+settle_first-requires c =
+    let b = behind _ _ c.requires.sizes.0 c.rotate_right.ensures.after in
+    record { within = omega (arith, c.rotate_right.ensures.len, c.requires.sizes.0); order = rw b (c.requires.lawful.0, at_least_zero _) }
 
 pub returns : goal.returns
 returns c =
-    let b = behind _ _ c.requires.sizes.0 c.rotate-right.ensures.after in
+    let b = behind _ _ c.requires.sizes.0 c.rotate_right.ensures.after in
     record {
-      line = λ n q. enter_line _ _ _ _ _ c.requires.lawful.1 n (few _ n c.requires.sizes.0 q) c.raise.ensures _ c.rotate-right.new.self b c.settle-first.ensures.line;
-      passes = λ n q. enter_passes _ _ _ _ _ c.requires.lawful.1 n (few _ n c.requires.sizes.0 q) c.raise.ensures _ c.rotate-right.new.self b c.settle-first.ensures.passes;
+      line = λ n q. enter_line _ _ _ _ _ c.requires.lawful.1 n (few _ n c.requires.sizes.0 q) c.raise.ensures _ c.rotate_right.new.self b c.settle_first.ensures.line;
+      passes = λ n q. enter_passes _ _ _ _ _ c.requires.lawful.1 n (few _ n c.requires.sizes.0 q) c.raise.ensures _ c.rotate_right.new.self b c.settle_first.ensures.passes;
     }

@@ -10,4 +10,4 @@ returns-in-Some c =
     sym (entry_of_found c.args.code c.args.line.now c.in-Some.at (entering c.args.places c.args.step c.args.line.now c.args.code) e.0 e.1 (e.2 blank))
 
 pub returns-in-None : goal.returns-in-None
-returns-in-None c = c.entering-as.ensures ∙ sym (entry_of_absent c.args.code c.args.line.now _ c.in-None.ensures)
+returns-in-None c = c.entering_as.ensures ∙ sym (entry_of_absent c.args.code c.args.line.now _ c.in-None.ensures)

@@ -54,10 +54,10 @@ returns-then-rise-weight c =
     let k = c.args.code in
     let w = c.args.weight in
     let f = full_from ps k w _ _ _ _ (sym c.raise.ensures.held ∙ c.if-raise.false) c.raise.ensures.places (sym c.enter.ensures.empty ∙ c.if-enter.false)
-    c.enter.ensures.places c.least-of-rise.ensures c.lower.ensures in
+    c.enter.ensures.places c.least_of-rise.ensures c.lower.ensures in
     let l : least c.args.weight c.args.places.now < c.args.weight = subst (λ (m : ℕ). m < w) f.rises c.if-rise-weight.true in
     record {
-      places = c.enter-then-rise-weight.ensures.places ∙ ap (entered k (w - c.least-of-rise.result)) f.lowers ∙
+      places = c.enter-then-rise-weight.ensures.places ∙ ap (entered k (w - c.least_of-rise.result)) f.lowers ∙
           ap (λ (m : ℕ). entered k (w - m) (lowered (least w ps) ps)) f.rises ∙ sym (added_leaves ps k w f.missing f.full l);
       rise = rise_some ps k w _ _ f;
     }
@@ -68,6 +68,6 @@ returns-else-rise-weight c =
     let k = c.args.code in
     let w = c.args.weight in
     let f = full_from ps k w _ _ _ _ (sym c.raise.ensures.held ∙ c.if-raise.false) c.raise.ensures.places (sym c.enter.ensures.empty ∙ c.if-enter.false)
-    c.enter.ensures.places c.least-of-rise.ensures c.lower.ensures in
+    c.enter.ensures.places c.least_of-rise.ensures c.lower.ensures in
     let l : c.args.weight ≤ least c.args.weight c.args.places.now = subst (λ (m : ℕ). w ≤ m) f.rises c.if-rise-weight.false in
     record { places = f.lowers ∙ sym (added_lowers ps k w f.missing f.full l); rise = rise_some ps k w _ _ f }

@@ -10,7 +10,7 @@ pub loop-place-preserved : goal.loop-place-preserved
 loop-place-preserved c =
     let ps = c.loop-place.places in
     let i = c.loop-place.place-index in
-    ap (set ps i) c.with-less.ensures ∙
+    ap (set ps i) c.with_less.ensures ∙
     map_over_more (less c.args.by) c.args.places.now ps i (get_or ps i Empty) c.loop-place-test.true c.loop-place.invariant
     (get_or_default ps i Empty (get_or ps i Empty) (omega arith))
 

@@ -8,8 +8,8 @@ use Rattle.shared.specs.Searches.{raised_missing, raised_found, holds_found, cou
 use Rattle.shared.proofs.places.raise.Goals as goal
 use Rattle.shared.proofs.places.raise.Goals.{in-Held+else-eq, in-default}
 
-pub overflow-add-count : goal.overflow-add-count
-overflow-add-count c =
+pub overflow_add-count : goal.overflow_add-count
+overflow_add-count c =
     let here : c.loop-place.place-index < length c.loop-place.places = omega arith in
     let count = count_of_found _ _ _ (sym (same-told _ _ _ c.eq.ensures) ∙ c.if-eq.true) _ _ here c.loop-place.invariant.1 c.in-Held.is in
     omega (arith, count, count_of_within c.args.code c.loop-place.places, ap counted c.loop-place.invariant.0)

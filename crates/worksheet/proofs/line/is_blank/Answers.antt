@@ -9,4 +9,4 @@ empty_told false [] h = grind arith
 empty_told false (x ∷ xs) h = λ e. grind arith
 
 pub returns : goal.returns
-returns c = empty_told _ (word_of c.args.line.now) (c.is-empty.ensures ∙ ap (λ (w : List ℕ). eqb (length w) 0) c.next-word.ensures.word)
+returns c = empty_told _ (word_of c.args.line.now) (c.is_empty.ensures ∙ ap (λ (w : List ℕ). eqb (length w) 0) c.next_word.ensures.word)

@@ -11,13 +11,13 @@ ten_digits word d l = let p : 10 ^ length word ≤ 10 ^ 10 = pow-le-pow_right (l
 
 pub returns-in-Ok : goal.returns-in-Ok
 returns-in-Ok c =
-    let n = c.in-ok-low.ensures in
-    let v = ten_digits c.args.word.now n.0.1 c.if-word-gt-NAME-DIGITS.false in
-    ((n.0, c.if-word-gt-NAME-DIGITS.false), omega (arith, ap (λ (k : Code). k.low) c.in-Ok.ensures, n.1, v))
+    let n = c.in_ok-low.ensures in
+    let v = ten_digits c.args.word.now n.0.1 c.if-word-gt-NAME_DIGITS.false in
+    ((n.0, c.if-word-gt-NAME_DIGITS.false), omega (arith, ap (λ (k : Code). k.low) c.in-Ok.ensures, n.1, v))
 
 pub returns-in-Err : goal.returns-in-Err
 returns-in-Err c = λ h.
-    let n = c.in-ok-low.ensures in
-    let v = ten_digits c.args.word.now n.0.1 c.if-word-gt-NAME-DIGITS.false in
-    let small : c.in-ok-low.low < 10 ^ 10 = omega (arith, n.1, v) in
-    c.in-Err.ensures.1 (record { number = c.in-ok-low.low; short = small }) refl
+    let n = c.in_ok-low.ensures in
+    let v = ten_digits c.args.word.now n.0.1 c.if-word-gt-NAME_DIGITS.false in
+    let small : c.in_ok-low.low < 10 ^ 10 = omega (arith, n.1, v) in
+    c.in-Err.ensures.1 (record { number = c.in_ok-low.low; short = small }) refl

@@ -3,16 +3,16 @@ use Rattle.frame.specs.Plans.{block_of, unit_of}
 use Rattle.frame.proofs.Dividing.{divides, block_some, blocks_few, unit_small}
 use Rattle.frame.proofs.layout.Layout.of.Goals as goal
 
-pub overflow-mul-from : goal.overflow-mul-from
-overflow-mul-from c =
+pub overflow_mul-from : goal.overflow_mul-from
+overflow_mul-from c =
     let p = c.args.plan in
     let k : c.from-2.result ≤ 16777216 = omega (arith, blocks_few p.window p.blocks (omega arith) (omega arith)) in
     let sum : c.from-3.result + c.from-4.result ≤ 2 ^ 34 = omega arith in
     omega (arith, mul-le-mul k sum)
 
-pub invariant-of-result : goal.invariant-of-result
+pub invariant_of-result : goal.invariant_of-result
 unfolding block_of unit_of
-invariant-of-result c =
+invariant_of-result c =
     let p = c.args.plan in
     let even : p.window % p.blocks ≡ 0 = omega arith in
     let wide : 1 ≤ p.window = omega arith in

@@ -4,8 +4,8 @@ use Rattle.frame.specs.Marked.{listed}
 use Rattle.frame.proofs.Arrays.{older-push, newer-push}
 use Rattle.frame.proofs.marks.Marks.put.Goals as goal
 
-pub returns-then-self-lt-MOST-MARKS : goal.returns-then-self-lt-MOST-MARKS
-returns-then-self-lt-MOST-MARKS c =
+pub returns-then-self-lt-MOST_MARKS : goal.returns-then-self-lt-MOST_MARKS
+returns-then-self-lt-MOST_MARKS c =
     let s = c.args.self.now in
     let room : s.count < length s.marks = omega arith in
     let long = length-take-le s.count s.marks (omega arith) in

@@ -5,16 +5,16 @@ use Rattle.meter.specs.States.{list_to}
 use Rattle.meter.specs.Meters.{state_of}
 use Rattle.meter.proofs.Listing.{list_all, listed_some, listed_none}
 use Rattle.meter.proofs.meter.Meter.count_listed.Goals as goal
-use Rattle.meter.proofs.meter.Meter.count_listed.Goals.{then-is-some, else-is-some}
+use Rattle.meter.proofs.meter.Meter.count_listed.Goals.{then-is_some, else-is_some}
 
 pub loop-place-preserved : goal.loop-place-preserved
 loop-place-preserved g c =
     let m = g.C.FrameCounter.meaning in
-    let r = c.record-at.result in
-    let more = ap length c.record-at.ensures ∙ length-append (list_to m (state_of m c.args.self.now) c.args.layout.now.plan c.args.level c.loop-place.place) (option_to_list r) in
-    elim c.if-is-some.branch [
-      | then-is-some w ↦ (omega (arith, w.count-is, c.loop-place.invariant.0, more, listed_some r (sym c.is-some.ensures ∙ w.if-is-some.true)), omega (arith, w.count-is, c.loop-place.invariant.1))
-      | else-is-some w ↦ (omega (arith, w.count-is, c.loop-place.invariant.0, more, listed_none r (sym c.is-some.ensures ∙ w.if-is-some.false)), omega (arith, w.count-is, c.loop-place.invariant.1))
+    let r = c.record_at.result in
+    let more = ap length c.record_at.ensures ∙ length-append (list_to m (state_of m c.args.self.now) c.args.layout.now.plan c.args.level c.loop-place.place) (option_to_list r) in
+    elim c.if-is_some.branch [
+      | then-is_some w ↦ (omega (arith, w.count-is, c.loop-place.invariant.0, more, listed_some r (sym c.is_some.ensures ∙ w.if-is_some.true)), omega (arith, w.count-is, c.loop-place.invariant.1))
+      | else-is_some w ↦ (omega (arith, w.count-is, c.loop-place.invariant.0, more, listed_none r (sym c.is_some.ensures ∙ w.if-is_some.false)), omega (arith, w.count-is, c.loop-place.invariant.1))
     ]
 
 pub returns : goal.returns

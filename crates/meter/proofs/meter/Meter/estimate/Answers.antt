@@ -17,6 +17,6 @@ returns g c =
     let k = g.K.FlowKey.coded c.args.key.now in
     let p = c.in-Some.layout.plan in
     let is : s.plan ≡ Some p = ap (λ (o : Option Layout). option_map (λ (l : Layout). l.plan) o) c.in-Some.is in
-    let value : c.estimate-of.result ≡ estimate_in m s p k = c.estimate-of.ensures ∙ ap (λ (j : Code). estimate_in m s p j) c.code.ensures in
-    let answer : answered c.estimate-of.result ≡ estimate_answer m s k = ap {B = Answer ℕ} answered value ∙ ap (λ (o : Option Plan). estimate_for m o s k) (sym is) in
+    let value : c.estimate_of.result ≡ estimate_in m s p k = c.estimate_of.ensures ∙ ap (λ (j : Code). estimate_in m s p j) c.code.ensures in
+    let answer : answered c.estimate_of.result ≡ estimate_answer m s k = ap {B = Answer ℕ} answered value ∙ ap (λ (o : Option Plan). estimate_for m o s k) (sym is) in
     record { answer = answer; bounds = λ l h. subst (EstimateRight l.plan l.roll k) (sym answer) (estimate_right m s l k h) }

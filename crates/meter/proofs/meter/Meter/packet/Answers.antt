@@ -27,20 +27,20 @@ done g c l h =
     let is : s.plan ≡ Some p = ap (λ (o : Option Layout). option_map (λ (l : Layout). l.plan) o) c.in-Some.is in
     let some : 1 ≤ c.args.weight = omega arith in
     let light : c.args.weight ≤ p.most = omega (arith, c.if-weight-plan.false, ap (λ (q : Plan). q.most) c.plan.ensures) in
-    let b = state_of m c.begin-frame.new.self in
-    let begun-is : b ≡ begun m s = c.begin-frame.ensures.state in
+    let b = state_of m c.begin_frame.new.self in
+    let begun-is : b ≡ begun m s = c.begin_frame.ensures.state in
     let k = c.code.result in
-    let older-is = c.leave-block.ensures.older ∙ (λ i. leave (block_of p) (begun-is i).offset (begun-is i).older) ∙ leaves_alike m met.flushes met.adds met.heavy s l h p is k c.args.weight some light in
-    let left_is : state_of m c.leave-block.new.self ≡ left m p (begun m s) =
+    let older-is = c.leave_block.ensures.older ∙ (λ i. leave (block_of p) (begun-is i).offset (begun-is i).older) ∙ leaves_alike m met.flushes met.adds met.heavy s l h p is k c.args.weight some light in
+    let left_is : state_of m c.leave_block.new.self ≡ left m p (begun m s) =
     λ i. record {
-      plan = (ap (λ (o : Option Layout). option_map (λ (l : Layout). l.plan) o) c.leave-block.ensures.layout ∙ ap (λ (y : State m.Model). y.plan) begun-is) i;
-      counter = (ap m.model c.leave-block.ensures.counter ∙ ap (λ (y : State m.Model). y.counter) begun-is) i;
-      offset = (c.leave-block.ensures.offset ∙ ap (λ (y : State m.Model). y.offset) begun-is) i;
+      plan = (ap (λ (o : Option Layout). option_map (λ (l : Layout). l.plan) o) c.leave_block.ensures.layout ∙ ap (λ (y : State m.Model). y.plan) begun-is) i;
+      counter = (ap m.model c.leave_block.ensures.counter ∙ ap (λ (y : State m.Model). y.counter) begun-is) i;
+      offset = (c.leave_block.ensures.offset ∙ ap (λ (y : State m.Model). y.offset) begun-is) i;
       older = older-is i;
-      newer = (c.leave-block.ensures.newer ∙ ap (λ (y : State m.Model). y.newer) begun-is) i;
+      newer = (c.leave_block.ensures.newer ∙ ap (λ (y : State m.Model). y.newer) begun-is) i;
     } in
     subst (λ (j : Code). Packeted m s l c.count.result (state_of m c.count.new.self) j c.args.weight) c.code.ensures
-    (packeted m met.flushes met.adds met.heavy s l h p is k c.args.weight some light c.count.result (state_of m c.leave-block.new.self) (state_of m c.count.new.self) left_is c.count.ensures.answer c.count.ensures.state)
+    (packeted m met.flushes met.adds met.heavy s l h p is k c.args.weight some light c.count.result (state_of m c.leave_block.new.self) (state_of m c.count.new.self) left_is c.count.ensures.answer c.count.ensures.state)
 
 pub returns : goal.returns
 returns g c = record {

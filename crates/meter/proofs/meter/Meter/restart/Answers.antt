@@ -13,7 +13,7 @@ pub returns : goal.returns
 returns g c =
     let m = g.C.FrameCounter.meaning in
     let s = state_of m c.args.self.now in
-    let has : is_some c.args.self.now.layout ≡ true = c.is-none.ensures ∙ ap not c.if-is-none.false in
+    let has : is_some c.args.self.now.layout ≡ true = c.is_none.ensures ∙ ap not c.if-is_none.false in
     let layout = some_from c.args.self.now.layout has in
     let is : s.plan ≡ Some layout.0.plan = ap (λ (o : Option Layout). option_map (λ (l : Layout). l.plan) o) layout.1 in
     let state = restart_taken m s layout.0.plan is _ _ _ c.flush.ensures.state c.clear.ensures.older c.clear.ensures.newer in

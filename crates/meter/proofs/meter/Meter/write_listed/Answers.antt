@@ -23,8 +23,8 @@ offset-bounds-table-count g c = omega (arith, c.loop-place.invariant.2, c.loop-p
 pub bounds-table-count : goal.bounds-table-count
 bounds-table-count g c = omega (arith, room g c, c.loop-place.auto.table)
 
-pub overflow-add-count : goal.overflow-add-count
-overflow-add-count g c = omega (arith, c.loop-place.invariant.2, c.loop-place-test.true, c.len-place-end.ensures.few)
+pub overflow_add-count : goal.overflow_add-count
+overflow_add-count g c = omega (arith, c.loop-place.invariant.2, c.loop-place-test.true, c.len-place-end.ensures.few)
 
 pub loop-place-preserved : goal.loop-place-preserved
 loop-place-preserved g c =
@@ -35,12 +35,12 @@ loop-place-preserved g c =
     let n = c.loop-place.place in
     let fits : length (list_to m s p level (n + 1)) ≤ length c.args.table.now = omega (arith, list_less m s p level (n + 1), c.requires) in
     let inv = c.loop-place.invariant in
-    elim c.match-record-at.branch [
+    elim c.match-record_at.branch [
       | in-Some w ↦
-          (let step = write_some (list_to m s p level n) (list_to m s p level (n + 1)) c.args.table.now c.loop-place.table c.loop-place.count inv.0 inv.1 fits w.in-Some.record c.match-record-at.count c.match-record-at.table w.in-Some.ensures w.count-is w.table-is in
+          (let step = write_some (list_to m s p level n) (list_to m s p level (n + 1)) c.args.table.now c.loop-place.table c.loop-place.count inv.0 inv.1 fits w.in-Some.record c.match-record_at.count c.match-record_at.table w.in-Some.ensures w.count-is w.table-is in
           (step.0, step.1, omega (arith, w.count-is, inv.2)))
       | in-default w ↦
-          (let step = write_none (list_to m s p level n) (list_to m s p level (n + 1)) c.args.table.now c.loop-place.table c.loop-place.count inv.0 inv.1 fits c.match-record-at.count c.match-record-at.table w.in-default.ensures w.count-is w.table-is in
+          (let step = write_none (list_to m s p level n) (list_to m s p level (n + 1)) c.args.table.now c.loop-place.table c.loop-place.count inv.0 inv.1 fits c.match-record_at.count c.match-record_at.table w.in-default.ensures w.count-is w.table-is in
           (step.0, step.1, omega (arith, w.count-is, inv.2)))
     ]
 

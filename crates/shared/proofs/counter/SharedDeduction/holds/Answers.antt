@@ -5,4 +5,4 @@ use Rattle.shared.proofs.counter.SharedDeduction.holds.Goals as goal
 pub returns : goal.returns
 returns c =
     let x = c.args.self.now in
-    c.is-of-held.ensures ∙ ap (ltb 0) c.count.ensures ∙ held_counts c.args.code (take x.places x.cells) x.order
+    c.is_of_held.ensures ∙ ap (ltb 0) c.count.ensures ∙ held_counts c.args.code (take x.places x.cells) x.order

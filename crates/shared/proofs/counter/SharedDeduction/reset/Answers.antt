@@ -6,8 +6,8 @@ use Rattle.shared.specs.Laws.{tidy_empty, counted_empty}
 use Rattle.shared.proofs.Cells.{places_emptied}
 use Rattle.shared.proofs.counter.SharedDeduction.reset.Goals as goal
 
-pub invariant-of-self : goal.invariant-of-self
-invariant-of-self c =
+pub invariant_of-self : goal.invariant_of-self
+invariant_of-self c =
     let n = c.args.places in
     let short : c.args.places ≤ length c.args.self.now.cells = omega arith in
     let empty = places_emptied n c.args.self.now.cells c.fill.new.self _ short (c.fill.ensures.after (λ _ e. e)) in

@@ -3,10 +3,10 @@ use Rattle.worksheet.proofs.totals.Totals.add.Goals as goal
 
 pub returns-in-Some : goal.returns-in-Some
 returns-in-Some c =
-    tallied_found c.args.code c.args.weight c.from-weight.result c.saturating-add-volume.result c.as-slice.result.now c.args.self.now.flows.items c.in-Some.i c.index.result.now
-    c.as-slice.ensures.value c.index.ensures c.from-weight.ensures c.saturating-add-volume.ensures c.in-Some.ensures
+    tallied_found c.args.code c.args.weight c.from-weight.result c.saturating_add-volume.result c.as_slice.result.now c.args.self.now.flows.items c.in-Some.i c.index.result.now
+    c.as_slice.ensures.value c.index.ensures c.from-weight.ensures c.saturating_add-volume.ensures c.in-Some.ensures
 
-pub returns-in-ok-push : goal.returns-in-ok-push
-returns-in-ok-push c =
-    tallied_pushed c.args.code c.args.weight c.from-weight.result c.as-slice.result.now c.args.self.now.flows.items _
-    c.as-slice.ensures.value c.from-weight.ensures c.in-ok-push.ensures.items c.in-None.ensures
+pub returns-in_ok-push : goal.returns-in_ok-push
+returns-in_ok-push c =
+    tallied_pushed c.args.code c.args.weight c.from-weight.result c.as_slice.result.now c.args.self.now.flows.items _
+    c.as_slice.ensures.value c.from-weight.ensures c.in_ok-push.ensures.items c.in-None.ensures

@@ -9,12 +9,12 @@ count-len-requires c =
     let l = lawful m in
     record {
       places = (m.len_in, (m.places_in.0, m.places_in.1));
-      sizes = (m.step_in.0, (omega (arith, m.step_in.1), omega (arith, c.if-weight-gt-MOST-WEIGHT.false)));
+      sizes = (m.step_in.0, (omega (arith, m.step_in.1), omega (arith, c.if-weight-gt-MOST_WEIGHT.false)));
       lawful = (l.rising, (l.distinct, (l.small, total_fits _ _ _ _ _ m.step_in.1 m.packets_in.0 m.packets_in.1 l)));
     }
 
-pub invariant-of-self : goal.invariant-of-self
-invariant-of-self c =
+pub invariant_of-self : goal.invariant_of-self
+invariant_of-self c =
     let m = c.args.self.now in
     let l = lawful m in
     let line = c.count-len.ensures.line in
@@ -27,7 +27,7 @@ invariant-of-self c =
       (
         m.step_in,
         (
-          (omega (arith, m.packets_in.0, c.if-self-eq-MOST-PACKETS.false), omega (arith, m.packets_in.1, c.if-weight-gt-MOST-WEIGHT.false)),
+          (omega (arith, m.packets_in.0, c.if-self-eq-MOST_PACKETS.false), omega (arith, m.packets_in.1, c.if-weight-gt-MOST_WEIGHT.false)),
           (
             still_few m.places m.step m.packets m.volume m.len w m.entries k len' xs' m.places_in.0 m.step_in.0 l line long,
             (

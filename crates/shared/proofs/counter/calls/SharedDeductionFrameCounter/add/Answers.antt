@@ -15,16 +15,16 @@ still c =
     let short : c.args.self.now.places ≤ length c.args.self.now.cells = omega arith in
     more_sound (shared_meaning.model x) c.args.code c.from-weight.result (sound x short) (omega arith) (omega arith)
 
-pub overflow-add-self-3 : goal.overflow-add-self-3
-overflow-add-self-3 c =
+pub overflow_add-self-3 : goal.overflow_add-self-3
+overflow_add-self-3 c =
     let x = c.args.self.now in
     let short : c.args.self.now.places ≤ length c.args.self.now.cells = omega arith in
     let s = stepped x _ _ _ _ _ _ short c.add-shared.ensures.places c.add-shared.ensures.rise c.cost-rise.ensures in
     let y = shared_more (shared_meaning.model x) c.args.code c.from-weight.result in
     omega (arith, s.rise_is, estimate_within c.args.code y.held x.places y.volume y.deduction (still c).sum, x.packets_in.0, x.packets_in.1)
 
-pub invariant-of-self : goal.invariant-of-self
-invariant-of-self c =
+pub invariant_of-self : goal.invariant_of-self
+invariant_of-self c =
     let x = c.args.self.now in
     let short : c.args.self.now.places ≤ length c.args.self.now.cells = omega arith in
     let s = stepped x _ _ _ _ _ _ short c.add-shared.ensures.places c.add-shared.ensures.rise c.cost-rise.ensures in
