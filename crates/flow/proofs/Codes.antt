@@ -1,5 +1,5 @@
 -- The test whether two codes are equal.
-use Rattle.std.proofs.Common.{◌≡◌, Bool, true, false, cond, Decides, sym, refl, ap, ◌∙◌, inl, inr, arith}
+use Rattle.std.proofs.Common.{◌≡◌, true, false, sym, ap, ◌∙◌, inl, inr, arith}
 use Rattle.std.proofs.lemmas.Bool.{cases_Bool, false≢true}
 use Rattle.std.proofs.lemmas.Bool.Decides.{nat_tests}
 use Rattle.flow.specs.declared.code.Code.{Code}
@@ -22,11 +22,3 @@ same_apart a b h = elim (cases_Bool (same a b)) [ inl y ↦ absurd (h (same_true
 
 pub apart_same : (a b : Code) → same a b ≡ false → a ≡ b → ⊥
 apart_same a b h e = false≢true (sym h ∙ ap (same a) (sym e) ∙ same_refl a)
-
--- what `==` answers of two codes
-pub same-told : (r : Bool) (x y : Code) →
-    cond r (Decides true (x.high ≡ y.high) × Decides true (x.low ≡ y.low)) ((Decides false (x.high ≡ y.high) → ⊥) → (Decides false (x.low ≡ y.low) → ⊥) → ⊥) →
-    r ≡ same x y
-same-told true x y h = let p = h.0.0 refl in let q = h.1.0 refl in grind (arith, nat_tests)
-same-told false x y h =
-    sym (same_apart x y (λ e. h (λ d. false≢true (d.1 (ap (λ (c : Code). c.high) e))) (λ d. false≢true (d.1 (ap (λ (c : Code). c.low) e)))))

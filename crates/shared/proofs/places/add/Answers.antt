@@ -17,7 +17,7 @@ returns-then-raise c =
       | then-raise-via-then-raise v ↦
           let h = sym c.raise.ensures.held ∙ v.if-raise.true in
           record {
-            places = v.places_is ∙ c.raise.ensures.places ∙ sym (added_raises ps k w h);
+            places = v.places-is ∙ c.raise.ensures.places ∙ sym (added_raises ps k w h);
             rise = sym (cond-true _ _ _ (or_left _ _ h));
           }
       | then-raise-via-else-raise+then-enter v ↦
@@ -25,7 +25,7 @@ returns-then-raise c =
           let was = c.raise.ensures.places ∙ raised_missing k w ps h in
           let e = ap any_empty (sym was) ∙ sym v.enter.ensures.empty ∙ v.if-enter.true in
           record {
-            places = v.places_is ∙ v.enter.ensures.places ∙ ap (entered k w) was ∙ sym (added_enters ps k w h e);
+            places = v.places-is ∙ v.enter.ensures.places ∙ ap (entered k w) was ∙ sym (added_enters ps k w h e);
             rise = sym (cond-true _ _ _ (or_right (holds k ps) _ e));
           }
     ]

@@ -8,7 +8,7 @@ pub returns-in-Empty : goal.returns-in-Empty
 returns-in-Empty c = sym (any_empty_found _ _ c.loop-place-test.true c.in-Empty.is)
 
 pub loop-place-preserved : goal.loop-place-preserved
-loop-place-preserved c = any_empty_more _ _ _ _ c.loop-place-test.true c.in-default.is c.loop-place.invariant
+loop-place-preserved c = any_empty_more _ _ _ _ c.loop-place-test.true c.in_default.is c.loop-place.invariant
 
 pub returns : goal.returns
 returns c = sym (sym (ap any_empty (take_all _ c.args.places.now c.loop-place-test.false)) ∙ c.loop-place.invariant)

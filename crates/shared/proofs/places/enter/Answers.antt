@@ -18,7 +18,7 @@ loop-place-preserved c =
     let i = c.loop-place.place-index in
     let here : c.loop-place.place-index < length c.loop-place.places = omega arith in
     let back = put_back c.loop-place.places i _ refl in
-    (back ∙ c.loop-place.invariant.0, ap (λ ps. any_empty (take (i + 1) ps)) back ∙ any_empty_more _ _ _ _ here c.in-default.is c.loop-place.invariant.1)
+    (back ∙ c.loop-place.invariant.0, ap (λ ps. any_empty (take (i + 1) ps)) back ∙ any_empty_more _ _ _ _ here c.in_default.is c.loop-place.invariant.1)
 
 pub returns : goal.returns
 returns c =

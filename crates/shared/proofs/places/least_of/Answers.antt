@@ -4,7 +4,7 @@ use Rattle.shared.specs.declared.place.Place.{Place}
 use Rattle.shared.specs.declared.place.Place.TheVariants.{Empty}
 use Rattle.shared.specs.Places.{least}
 use Rattle.shared.proofs.places.least_of.Goals as goal
-use Rattle.shared.proofs.places.least_of.Goals.{in-Held, in-default}
+use Rattle.shared.proofs.places.least_of.Goals.{in-Held, in_default}
 
 -- the least of what is left, from the place at i on
 turn : (s : ℕ) (ps : List Place) (i : ℕ) (p : Place) → i < length ps → get_or ps i Empty ≡ p → least s (p ∷ drop (i + 1) ps) ≡ least s (drop i ps)
@@ -16,7 +16,7 @@ loop-place-preserved c =
     let rest = drop (c.loop-place.place-index + 1) c.args.places.now in
     elim c.match-place.branch [
       | in-Held w ↦ ap (λ (m : ℕ). least m rest) (w.smallest-is ∙ w.min-smallest.ensures) ∙ step _ c.loop-place-test.true w.in-Held.is ∙ c.loop-place.invariant
-      | in-default w ↦ ap (λ (m : ℕ). least m rest) w.smallest-is ∙ step _ c.loop-place-test.true w.in-default.is ∙ c.loop-place.invariant
+      | in_default w ↦ ap (λ (m : ℕ). least m rest) w.smallest-is ∙ step _ c.loop-place-test.true w.in_default.is ∙ c.loop-place.invariant
     ]
 
 pub returns : goal.returns

@@ -2,22 +2,21 @@ use Rattle.std.proofs.Common.{◌≡◌, ◌+◌, ◌<◌, true, length, take, s
 use Rattle.std.proofs.lemmas.List.{take_all}
 use Rattle.std.proofs.lemmas.Bool.{cond-false}
 use Rattle.flow.specs.Codes.{same}
-use Rattle.flow.proofs.Codes.{same-told}
 use Rattle.shared.specs.Places.{holds, raised, counted}
 use Rattle.shared.specs.Searches.{raised_missing, raised_found, holds_found, count_of_found, count_of_within, holds_more, put_back}
 use Rattle.shared.proofs.places.raise.Goals as goal
-use Rattle.shared.proofs.places.raise.Goals.{in-Held+else-eq, in-default}
+use Rattle.shared.proofs.places.raise.Goals.{in-Held+else-eq, in_default}
 
 pub overflow_add-count : goal.overflow_add-count
 overflow_add-count c =
     let here : c.loop-place.place-index < length c.loop-place.places = omega arith in
-    let count = count_of_found _ _ _ (sym (same-told _ _ _ c.eq.ensures) ∙ c.if-eq.true) _ _ here c.loop-place.invariant.1 c.in-Held.is in
+    let count = count_of_found _ _ _ (sym c.eq.ensures ∙ c.if-eq.true) _ _ here c.loop-place.invariant.1 c.in-Held.is in
     omega (arith, count, count_of_within c.args.code c.loop-place.places, ap counted c.loop-place.invariant.0)
 
 pub returns-then-eq : goal.returns-then-eq
 returns-then-eq c =
     let here : c.loop-place.place-index < length c.loop-place.places = omega arith in
-    let s : same c.args.code c.in-Held.held ≡ true = sym (same-told _ _ _ c.eq.ensures) ∙ c.if-eq.true in
+    let s : same c.args.code c.in-Held.held ≡ true = sym c.eq.ensures ∙ c.if-eq.true in
     let was = c.loop-place.invariant.0 in
     record {
       places = sym (raised_found _ _ _ s c.args.weight _ _ here c.loop-place.invariant.1 c.in-Held.is) ∙ ap (raised c.args.code c.args.weight) was;
@@ -35,11 +34,11 @@ loop-place-preserved c =
           let back = w.places-is ∙ put_back _ _ _ w.in-Held.is in (
             back ∙ c.loop-place.invariant.0,
             ap (λ ps. holds k (take (i + 1) ps)) back ∙
-                more _ here w.in-Held.is c.loop-place.invariant.1 (cond-false _ _ _ (sym (same-told _ _ _ w.eq.ensures) ∙ w.if-eq.false)),
+                more _ here w.in-Held.is c.loop-place.invariant.1 (cond-false _ _ _ (sym w.eq.ensures ∙ w.if-eq.false)),
           )
-      | in-default w ↦
+      | in_default w ↦
           let back = w.places-is ∙ put_back _ _ _ refl in
-          (back ∙ c.loop-place.invariant.0, ap (λ ps. holds k (take (i + 1) ps)) back ∙ more _ here w.in-default.is c.loop-place.invariant.1 refl)
+          (back ∙ c.loop-place.invariant.0, ap (λ ps. holds k (take (i + 1) ps)) back ∙ more _ here w.in_default.is c.loop-place.invariant.1 refl)
     ]
 
 pub returns : goal.returns

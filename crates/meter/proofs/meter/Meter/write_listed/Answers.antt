@@ -5,7 +5,7 @@ use Rattle.meter.specs.Meters.{state_of}
 use Rattle.meter.proofs.Listing.{list_all, list_less, write_some, write_none}
 use Rattle.meter.proofs.meter.Meter.write_listed.Given as given
 use Rattle.meter.proofs.meter.Meter.write_listed.Goals as goal
-use Rattle.meter.proofs.meter.Meter.write_listed.Goals.{in-Some, in-default}
+use Rattle.meter.proofs.meter.Meter.write_listed.Goals.{in-Some, in_default}
 
 -- the table has a place for one record more
 room : (g : given.Over) (c : goal.In-Some g) → c.loop-place.count < length c.args.table.now
@@ -39,8 +39,8 @@ loop-place-preserved g c =
       | in-Some w ↦
           (let step = write_some (list_to m s p level n) (list_to m s p level (n + 1)) c.args.table.now c.loop-place.table c.loop-place.count inv.0 inv.1 fits w.in-Some.record c.match-record_at.count c.match-record_at.table w.in-Some.ensures w.count-is w.table-is in
           (step.0, step.1, omega (arith, w.count-is, inv.2)))
-      | in-default w ↦
-          (let step = write_none (list_to m s p level n) (list_to m s p level (n + 1)) c.args.table.now c.loop-place.table c.loop-place.count inv.0 inv.1 fits c.match-record_at.count c.match-record_at.table w.in-default.ensures w.count-is w.table-is in
+      | in_default w ↦
+          (let step = write_none (list_to m s p level n) (list_to m s p level (n + 1)) c.args.table.now c.loop-place.table c.loop-place.count inv.0 inv.1 fits c.match-record_at.count c.match-record_at.table w.in_default.ensures w.count-is w.table-is in
           (step.0, step.1, omega (arith, w.count-is, inv.2)))
     ]
 

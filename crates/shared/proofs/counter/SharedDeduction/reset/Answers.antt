@@ -11,7 +11,12 @@ invariant_of-self c =
     let n = c.args.places in
     let short : c.args.places ≤ length c.args.self.now.cells = omega arith in
     let empty = places_emptied n c.args.self.now.cells c.fill.new.self _ short (c.fill.ensures.after (λ _ e. e)) in
-    (c.requires, ((omega arith, omega arith), (ap tidy empty ∙ tidy_empty n, (omega (arith, ap counted empty, counted_empty n), tt))))
+    record {
+      places_in = c.requires;
+      packets_in = (omega arith, omega arith);
+      order = ap tidy empty ∙ tidy_empty n;
+      sum = omega (arith, ap counted empty, counted_empty n);
+    }
 
 pub returns : goal.returns
 returns c =

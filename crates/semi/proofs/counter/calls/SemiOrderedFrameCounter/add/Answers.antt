@@ -22,22 +22,15 @@ invariant_of-self c =
     let w = c.args.weight in
     let k = c.args.code in
     let len' = c.count-len.result.0 in
-    let xs' = c.count-len.new.entries in (
-      m.places_in,
-      (
-        m.step_in,
-        (
-          (omega (arith, m.packets_in.0, c.if-self-eq-MOST_PACKETS.false), omega (arith, m.packets_in.1, c.if-weight-gt-MOST_WEIGHT.false)),
-          (
-            still_few m.places m.step m.packets m.volume m.len w m.entries k len' xs' m.places_in.0 m.step_in.0 l line long,
-            (
-              still_order m.places m.step m.packets m.volume m.len w m.entries k len' xs' m.places_in.0 m.step_in.0 l line long,
-              ((still m.places m.step m.packets m.volume m.len w m.entries k len' xs' m.places_in.0 m.step_in.0 l line long).sum, tt),
-            ),
-          ),
-        ),
-      ),
-    )
+    let xs' = c.count-len.new.entries in
+    record {
+      places_in = m.places_in;
+      step_in = m.step_in;
+      packets_in = (omega (arith, m.packets_in.0, c.if-self-eq-MOST_PACKETS.false), omega (arith, m.packets_in.1, c.if-weight-gt-MOST_WEIGHT.false));
+      len_in = still_few m.places m.step m.packets m.volume m.len w m.entries k len' xs' m.places_in.0 m.step_in.0 l line long;
+      order = still_order m.places m.step m.packets m.volume m.len w m.entries k len' xs' m.places_in.0 m.step_in.0 l line long;
+      sum = (still m.places m.step m.packets m.volume m.len w m.entries k len' xs' m.places_in.0 m.step_in.0 l line long).sum;
+    }
 
 pub returns : goal.returns
 returns c =

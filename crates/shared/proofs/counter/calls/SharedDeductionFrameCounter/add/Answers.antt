@@ -30,7 +30,12 @@ invariant_of-self c =
     let s = stepped x _ _ _ _ _ _ short c.add-shared.ensures.places c.add-shared.ensures.rise c.cost-rise.ensures in
     let held = s.held (post_of 0 (x.places - 0) x.cells) in
     let d = ap (λ (m : ℕ). (x.places + 1) * (x.deduction + m)) s.rise_is in
-    (x.places_in, ((omega arith, omega arith), (ap tidy held ∙ (still c).tidily, (omega (arith, ap counted held, d, (still c).sum), tt))))
+    record {
+      places_in = x.places_in;
+      packets_in = (omega arith, omega arith);
+      order = ap tidy held ∙ (still c).tidily;
+      sum = omega (arith, ap counted held, d, (still c).sum);
+    }
 
 pub returns : goal.returns
 returns c =
