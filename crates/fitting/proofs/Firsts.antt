@@ -1,5 +1,5 @@
 -- The first packet of any counter, from the laws alone.
-use Rattle.std.proofs.Common.{◌≡◌, ℕ, ◌+◌, Bool, true, false, cond, eqb, sym, refl, ap, ◌∙◌, subst, arith}
+use Rattle.std.proofs.Common.{◌≡◌, ℕ, Bool, true, false, cond, eqb, sym, refl, ap, ◌∙◌, subst, arith}
 use Rattle.flow.specs.Answers.{Answer, answered, refused, after}
 use Rattle.flow.specs.Limits.{most_places, most_weight, most_packets, outside}
 use Rattle.flow.specs.Meanings.{Meaning, Fresh, Opens, Adds, open_answer, open_leaves, add_answer, add_leaves}

@@ -10,8 +10,8 @@ use flow::refusal::Refusal;
 
 // Makes the counter ready for a first packet.
 fn prepare<C: FrameCounter>(counter: &mut C, places: usize, step: u32) -> Result<(), Refusal>
-    ensures answer { told result ≡ open_answer meaning (meaning.model counter.old) places step }
-    ensures state { meaning.model counter.new ≡ open_leaves meaning (meaning.model counter.old) places step }
+    ensures answer { told result ≡ open_answer C.meaning (C.meaning.model counter.old) places step }
+    ensures state { C.meaning.model counter.new ≡ open_leaves C.meaning (C.meaning.model counter.old) places step }
 {
     counter.open(places, step)
 }
@@ -25,7 +25,7 @@ pub fn first_estimate<C: FrameCounter>(
     code: Code,
     weight: u32,
 ) -> Result<u64, Refusal>
-    ensures { told result ≡ first_answer (meaning.greatest (meaning.model counter.old)) places step weight }
+    ensures { told result ≡ first_answer (C.meaning.greatest (C.meaning.model counter.old)) places step weight }
 {
     prepare(counter, places, step)?;
     counter.add(code, weight)?;

@@ -1,6 +1,7 @@
 // Port keys: two bytes, the number of a TCP or UDP port.
 ghost use Rattle.std.specs.Prelude.{◌≡◌, ◌+◌, ◌*◌, ◌^◌, ◌<◌, length, slice_index};
-ghost use Rattle.std.proofs.Common.{rules, arith};
+ghost use Rattle.std.proofs.Common.{arith};
+ghost use Rattle.flow.specs.Keys.{comes_back};
 
 use flow::code::Code;
 use flow::key::FlowKey;
@@ -22,9 +23,9 @@ impl FlowKey for Port {
 
     ghost spells = { λ k bytes. (length bytes ≡ 2) × (k.number ≡ slice_index bytes 0 * 256 + slice_index bytes 1) };
 
-    ghost back = { first_of (Prim.search rules, Prim.grind (arith, Self.row.coded.inj)) };
+    ghost back = { comes_back _ (λ x k h. Prim.grind (arith, Self.row.coded.inj)) };
 
-    ghost one = { first_of (Prim.search rules, Prim.grind (arith, Self.row.coded.inj)) };
+    ghost one = { Prim.grind (arith, Self.row.coded.inj) };
 
     ghost wide = { λ k bytes h. h.0 };
 

@@ -1,5 +1,5 @@
 -- The budget of a frame: what its packets can weigh stays below n T.
-use Rattle.std.proofs.Common.{◌≡◌, ℕ, ◌+◌, ◌-◌, ◌*◌, ◌<◌, ◌≤◌, List, [], ◌∷◌, ◌++◌, length, ap, mul-le-mul_right, mul_assoc, suc-mul, mul_comm, mul-le-mul_left, mul-suc, mul-add, arith}
+use Rattle.std.proofs.Common.{ℕ, ◌+◌, ◌-◌, ◌*◌, ◌<◌, ◌≤◌, List, [], ◌∷◌, ◌++◌, length, ap, mul-le-mul_right, mul_assoc, suc-mul, mul_comm, mul-le-mul_left, mul-suc, mul-add, arith}
 use Rattle.std.specs.List.{AllByRecursion}
 use Rattle.frame.specs.declared.plan.Plan.{Plan}
 use Rattle.frame.specs.Plans.{Fair, block_of, unit_of}

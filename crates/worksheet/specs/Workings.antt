@@ -11,10 +11,10 @@ use Rattle.semi.specs.declared.entry.Entry.{Entry}
 use Rattle.shared.specs.Places.{holds as has_place, any_empty}
 use Rattle.shared.specs.declared.place.Place.{Place}
 use Rattle.shared.specs.declared.place.Place.TheVariants.{Empty, Held as Occupied}
-use Rattle.worksheet.specs.declared.semi.Way.{Way}
-use Rattle.worksheet.specs.declared.semi.Way.TheVariants.{Held, Enters, Evicts}
-use Rattle.worksheet.specs.declared.shared.Way.{Way as SharedWay}
-use Rattle.worksheet.specs.declared.shared.Way.TheVariants.{Held as HasPlace, Takes, Shares}
+use Rattle.worksheet.specs.declared.semi_ordered.Way.{Way}
+use Rattle.worksheet.specs.declared.semi_ordered.Way.TheVariants.{Held, Enters, Evicts}
+use Rattle.worksheet.specs.declared.shared_deduction.Way.{Way as SharedWay}
+use Rattle.worksheet.specs.declared.shared_deduction.Way.TheVariants.{Held as HasPlace, Takes, Shares}
 
 abbrev pub evicting : List Entry → Way
 evicting [] = Enters

@@ -24,10 +24,10 @@ impl Kind {
     fn named(word: &[u8]) -> Option<Kind>
         ensures { KindRead word.now result }
     {
-        if word == b"semi-ordered" {
+        if word == b"semi-ordered".as_slice() {
             return Some(Kind::SemiOrdered);
         }
-        if word == b"shared-deduction" {
+        if word == b"shared-deduction".as_slice() {
             return Some(Kind::SharedDeduction);
         }
         None

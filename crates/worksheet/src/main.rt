@@ -3,8 +3,8 @@
 
 mod division;
 mod line;
-mod semi;
-mod shared;
+mod semi_ordered;
+mod shared_deduction;
 mod sheet;
 mod totals;
 mod worked;

@@ -14,7 +14,7 @@ pub returns-in_err-add : goal.returns-in_err-add
 returns-in_err-add g c =
     let m = g.C.FrameCounter.meaning in
     let opened = c.in_ok-prepare.ensures in
-    let refusal = err_from_is_err_and c.from-residual-in_err-add.result c.from-residual-in_err-add.ensures.1 in
+    let refusal = err_from_is_err_and c.from_residual-in_err-add.result c.from_residual-in_err-add.ensures.1 in
     rw (refusal.1, refusal.2)
     (first_refused m g.met.C.FrameCounter.opens g.met.C.FrameCounter.adds (m.model c.args.counter.now) (m.model c.prepare.new.counter) c.args.places c.args.step opened.answer opened.state
     c.args.code c.args.weight _ c.in_err-add.ensures.answer)

@@ -1,6 +1,6 @@
-use Rattle.std.proofs.Common.{◌≡◌, ◌+◌, ◌-◌, ◌*◌, ◌/◌, ◌%◌, ◌^◌, ◌≤◌, refl, ◌∙◌, mul_comm, mul-le-mul, arith}
+use Rattle.std.proofs.Common.{◌≡◌, ◌+◌, ◌*◌, ◌/◌, ◌%◌, ◌^◌, ◌≤◌, refl, mul-le-mul, arith}
 use Rattle.frame.specs.Plans.{block_of, unit_of}
-use Rattle.frame.proofs.Dividing.{divides, block_some, blocks_few, unit_small}
+use Rattle.frame.proofs.Dividing.{block_some, blocks_few, unit_small}
 use Rattle.frame.proofs.layout.Layout.of.Goals as goal
 
 pub overflow_mul-from : goal.overflow_mul-from
@@ -20,4 +20,12 @@ invariant_of-result c =
     let most : 1 ≤ p.most = omega arith in
     let unit : c.from-5.result * c.from-6.result ≡ p.most * (p.window / p.blocks) = λ i. c.from-5.ensures i * c.from-6.ensures i in
     let small = unit_small p.most p.window p.blocks (omega arith) (omega arith) in
-    (refl, (unit, (some, (omega (arith, unit, mul-le-mul most some), (omega (arith, unit, small), (wide, (omega arith, tt)))))))
+    record {
+      block_is = refl;
+      unit_is = unit;
+      some = some;
+      counts = omega (arith, unit, mul-le-mul most some);
+      small = omega (arith, unit, small);
+      wide = wide;
+      light = omega arith;
+    }

@@ -1,4 +1,4 @@
-use Rattle.std.proofs.Common.{◌+◌, ◌<◌, ◌≤◌, length, get_or, take, sym, ap, ◌∙◌, arith}
+use Rattle.std.proofs.Common.{◌+◌, ◌<◌, ◌≤◌, length, get_or, take, ap, ◌∙◌, arith}
 use Rattle.frame.specs.declared.marks.Mark.{Mark}
 use Rattle.frame.specs.Marking.{marks_of}
 use Rattle.frame.proofs.Counting.{marks_fewer}

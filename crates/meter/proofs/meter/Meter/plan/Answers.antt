@@ -37,7 +37,7 @@ returns-in_err-layout g c =
     let none : s.plan ≡ None = ap (λ (o : Option Layout). option_map (λ (l : Layout). l.plan) o) (none_from c.args.self.now.layout (sym c.is_some.ensures ∙ c.if-is_some.false)) in
     let no' : judged (m.greatest s.counter) q ≡ refused (number c.in_err-layout.field-0.0) = ap (λ (n : ℕ). judged n q) (sym c.greatest_step.ensures) ∙ c.in_err-layout.ensures in
     let state = plan_refused m s q none _ no' in
-    let refusal = err_from_is_err_and c.from-residual.result c.from-residual.ensures.1 in
+    let refusal = err_from_is_err_and c.from_residual.result c.from_residual.ensures.1 in
     rw (refusal.1, refusal.2) (record {
       answer = sym (plan_judged m s q none ∙ no');
       state = state;
