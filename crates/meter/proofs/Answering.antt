@@ -1,15 +1,13 @@
 -- Estimates and lists are within the bounds of the true volumes.
-use Rattle.std.proofs.Common.{◌≡◌, ℕ, ◌+◌, ◌-◌, ◌*◌, ◌<◌, ◌≤◌, Bool, true, false, cond, ltb, leb, List, [], ◌∷◌, ◌++◌, map, length, Some, None, Option, sym, refl, ap, ◌∙◌, subst, ⊎_elim, arith, length-append}
+use Rattle.std.proofs.Common.{◌≡◌, ℕ, ◌+◌, ◌*◌, ◌≤◌, Bool, true, false, cond, ltb, leb, List, [], ◌∷◌, ◌++◌, length, Some, None, Option, sym, refl, ap, ◌∙◌, subst, ⊎_elim, arith}
 use Rattle.std.specs.List.{AllByRecursion}
-use Rattle.std.proofs.lemmas.Bool.{cases_Bool, cond-true, cond-false, le-leb, lt-leb, lt-ltb, ltb-false}
+use Rattle.std.proofs.lemmas.Bool.{cases_Bool, cond-true, cond-false, le-leb, lt-leb, lt-ltb}
 use Rattle.std.proofs.lemmas.Bool.Decides.{nat_tests}
-use Rattle.flow.specs.Answers.{Answer, answered, refused}
 use Rattle.flow.specs.Codes.{same}
-use Rattle.flow.specs.Meanings.{Meaning, Heavy}
+use Rattle.flow.specs.Meanings.{Meaning}
 use Rattle.flow.specs.declared.code.Code.{Code}
 use Rattle.flow.proofs.Codes.{same_true}
 use Rattle.frame.specs.declared.plan.Plan.{Plan}
-use Rattle.frame.specs.declared.marks.Mark.{Mark}
 use Rattle.frame.specs.Plans.{unit_of}
 use Rattle.frame.specs.Rolls.{Packet, true_volume}
 use Rattle.frame.specs.Marking.{marks_of, times, flows}

@@ -1,11 +1,10 @@
 -- What the steps of the calls come to, on states.
 use Rattle.std.proofs.Common.{◌≡◌, ℕ, ◌+◌, ◌-◌, ◌*◌, ◌<◌, ◌≤◌, Bool, true, false, cond, eqb, ltb, List, [], ◌∷◌, ◌++◌, length, is_some, IfOk, Some, None, Ok, Err, Option, Result, sym, refl, ap, ◌∙◌, subst, arith, length-append}
-use Rattle.std.specs.Option.{option_map}
 use Rattle.std.proofs.lemmas.Bool.{cond-true, cond-false, lt-ltb, ltb-false}
 use Rattle.std.proofs.lemmas.Bool.Decides.{nat_tests}
 use Rattle.flow.specs.Answers.{Answer, answered, refused, after, told}
 use Rattle.flow.specs.Limits.{most_marks}
-use Rattle.flow.specs.Meanings.{Meaning, Opens, Flushes, Adds, Heavy, open_answer, open_leaves, add_answer, add_leaves}
+use Rattle.flow.specs.Meanings.{Meaning, Flushes, Adds, Heavy, open_leaves, add_answer, add_leaves}
 use Rattle.flow.specs.Refusals.{number}
 use Rattle.flow.specs.declared.code.Code.{Code}
 use Rattle.flow.specs.declared.refusal.Refusal.{Refusal}
@@ -13,7 +12,6 @@ use Rattle.frame.specs.declared.plan.Plan.{Plan}
 use Rattle.frame.specs.declared.marks.Mark.{Mark}
 use Rattle.frame.specs.Plans.{judged, block_of, unit_of, next_offset}
 use Rattle.frame.specs.Marking.{dropped, due, leave}
-use Rattle.frame.specs.Rolls.{Packet}
 use Rattle.frame.proofs.Leaving.{leave_worded}
 use Rattle.meter.specs.Ledgers.{Ledger, plan_verdict, packet_verdict, restart_verdict, noted}
 use Rattle.meter.specs.Guarantees.{places_of}
@@ -21,7 +19,7 @@ use Rattle.meter.specs.States.{State, plan_answer, plan_leaves, begun, left, cou
 use Rattle.meter.specs.Holding.{Room, Tracks, Kept, Holds}
 use Rattle.meter.specs.Days.{packet_said}
 use Rattle.meter.proofs.Holdings.{open_taken, packet_holds}
-use Rattle.meter.proofs.Tracking.{begun_tracks, add_taken, counted_tracks, few_passes, marks_few, tracks_fair}
+use Rattle.meter.proofs.Tracking.{begun_tracks, add_taken, counted_tracks, few_passes, marks_few}
 
 pub none_from : {A : Type 0} (o : Option A) → is_some o ≡ false → o ≡ None
 none_from None e = refl

@@ -1,7 +1,7 @@
 -- The guarantee over a day, from what each call keeps.
-use Rattle.std.proofs.Common.{◌≡◌, ℕ, ◌+◌, ◌-◌, ◌*◌, ◌<◌, ◌≤◌, Bool, true, false, cond, ltb, List, [], ◌∷◌, ◌++◌, length, Some, None, MatchBool, Option, sym, refl, ap, ◌∙◌, subst, arith, length-append}
-use Rattle.std.proofs.lemmas.Bool.{cond-true, cond-false, ltb-false, le-ltb}
-use Rattle.flow.specs.Answers.{Answer, answered, refused}
+use Rattle.std.proofs.Common.{◌≡◌, ℕ, ◌*◌, ◌≤◌, Bool, true, false, cond, ltb, List, [], ◌∷◌, ◌++◌, length, Some, None, MatchBool, Option, sym, refl, ap, subst, arith}
+use Rattle.std.proofs.lemmas.Bool.{cond-false, ltb-false, le-ltb}
+use Rattle.flow.specs.Answers.{answered, refused}
 use Rattle.flow.specs.Limits.{least_scratch, most_marks}
 use Rattle.flow.specs.Meanings.{Meaning, Opens, Flushes, Adds, Heavy}
 use Rattle.flow.specs.declared.code.Code.{Code}
@@ -10,11 +10,11 @@ use Rattle.frame.specs.Plans.{unit_of}
 use Rattle.meter.specs.declared.record.Record.{Record}
 use Rattle.meter.specs.declared.day.Call.{Call}
 use Rattle.meter.specs.declared.day.Call.TheVariants as call
-use Rattle.meter.specs.Ledgers.{Ledger, fresh, plan_verdict, packet_verdict, restart_verdict}
+use Rattle.meter.specs.Ledgers.{Ledger, fresh, plan_verdict, restart_verdict}
 use Rattle.meter.specs.Guarantees.{places_of, Lists, ListRight}
-use Rattle.meter.specs.States.{State, unplanned, begun, packet_answer, estimate_answer, list_in, list_for, list_answer}
+use Rattle.meter.specs.States.{State, unplanned, estimate_answer, list_in, list_for, list_answer}
 use Rattle.meter.specs.Holding.{Kept, Holds}
-use Rattle.meter.specs.Days.{Said, plan_said, packet_said, restart_said, step, Right, Runs, Day, call_said, call_leaves, day_said, day_leaves}
+use Rattle.meter.specs.Days.{Said, plan_said, restart_said, step, Right, Runs, Day, call_said, call_leaves, day_said, day_leaves}
 use Rattle.meter.proofs.Answering.{lists, estimate_right, list_few}
 use Rattle.meter.proofs.Calling.{few_marks, passes_few}
 use Rattle.meter.proofs.Holdings.{new_holds, plan_holds, packet_holds, restart_holds}

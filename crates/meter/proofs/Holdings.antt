@@ -1,19 +1,17 @@
 -- What each call keeps of a ledger, and that its answer is right.
-use Rattle.std.proofs.Common.{◌≡◌, ℕ, ◌+◌, ◌-◌, ◌*◌, ◌<◌, ◌≤◌, Bool, true, false, cond, eqb, ltb, List, [], ◌∷◌, ◌++◌, length, Some, None, Option, sym, refl, ap, ◌∙◌, subst, arith}
-use Rattle.std.proofs.lemmas.Bool.{eqb-false, ltb-false, cond-false}
+use Rattle.std.proofs.Common.{◌≡◌, ℕ, ◌+◌, ◌≤◌, Bool, true, false, cond, eqb, ltb, List, [], ◌∷◌, Some, None, Option, sym, refl, ap, ◌∙◌, subst, arith}
+use Rattle.std.proofs.lemmas.Bool.{ltb-false, cond-false}
 use Rattle.std.proofs.lemmas.Bool.Decides.{nat_tests}
 use Rattle.flow.specs.Answers.{Answer, answered, refused, after}
-use Rattle.flow.specs.Limits.{most_places, outside}
 use Rattle.flow.specs.Meanings.{Meaning, Fresh, Opens, Flushes, Adds, Heavy, open_answer}
 use Rattle.flow.specs.declared.code.Code.{Code}
 use Rattle.frame.specs.declared.plan.Plan.{Plan}
-use Rattle.frame.specs.declared.marks.Mark.{Mark}
 use Rattle.frame.specs.Plans.{judged, wrapped}
 use Rattle.frame.specs.Rolls.{Packet}
 use Rattle.frame.proofs.Accepting.{passed, fair}
 use Rattle.meter.specs.Ledgers.{Ledger, fresh, plan_verdict, packet_verdict, restart_verdict, planned, noted, restarted}
 use Rattle.meter.specs.States.{State, unplanned, plan_leaves, flushed_frame, begun, taken, packet_leaves, restart_leaves}
-use Rattle.meter.specs.Holding.{Tracks, Kept, Holds}
+use Rattle.meter.specs.Holding.{Kept, Holds}
 use Rattle.meter.proofs.Tracking.{first, tracks_fair, begun_tracks, counted_tracks}
 
 zero_wrapped : (p : Plan) → ◌≡◌ {A = ℕ} 0 (wrapped p 0)

@@ -1,10 +1,10 @@
 -- What the calls keep of a meter's state under a plan.
 use Rattle.std.proofs.Common.{◌≡◌, ℕ, suc, ◌+◌, ◌-◌, ◌*◌, ◌/◌, ◌<◌, ◌≤◌, Bool, true, false, cond, eqb, ltb, ◌⊎◌, List, [], ◌∷◌, ◌++◌, length, sym, refl, ap, ◌∙◌, subst, inl, inr, ⊎_elim, arith}
 use Rattle.std.specs.List.{AllByRecursion}
-use Rattle.std.proofs.lemmas.Bool.{cases_Bool, cond-true, cond-false}
+use Rattle.std.proofs.lemmas.Bool.{cases_Bool}
 use Rattle.std.proofs.lemmas.Bool.Decides.{nat_tests}
-use Rattle.flow.specs.Answers.{answered, refused}
-use Rattle.flow.specs.Limits.{most_weight, most_packets, most_marks, outside}
+use Rattle.flow.specs.Answers.{answered}
+use Rattle.flow.specs.Limits.{most_weight, most_packets}
 use Rattle.flow.specs.Meanings.{Meaning, Fresh, Flushes, Grown, Adds, Heavy, Rises, bound, add_answer}
 use Rattle.flow.specs.declared.code.Code.{Code}
 use Rattle.frame.specs.declared.plan.Plan.{Plan}

@@ -6,7 +6,7 @@
 --   ListsUnder      a list keeps the guarantee under the plan
 --   EstimateRight   the answers that an estimate may have under a ledger
 --   ListRight       the answers that a list may have under a ledger
-use Rattle.std.specs.Prelude.{◌≡◌, ℕ, ◌+◌, ◌*◌, ◌<◌, ◌≤◌, cond, List, map, Some, None, MatchBool, Option, nat_lt}
+use Rattle.std.specs.Prelude.{◌≡◌, ℕ, ◌+◌, ◌*◌, ◌<◌, ◌≤◌, List, map, Some, None, MatchBool, Option, nat_lt}
 use Rattle.std.specs.List.{AllByRecursion}
 use Rattle.flow.specs.Answers.{Answer, answered, refused}
 use Rattle.flow.specs.declared.code.Code.{Code}

@@ -24,8 +24,8 @@ use frame::plan::Plan;
 impl<C: FrameCounter> Meter<C> {
     // A meter with no plan, made of a counter that it takes over.
     pub fn new(counter: C) -> Meter<C>
-        ensures state { state_of meaning result ≡ unplanned (meaning.model counter) }
-        ensures holds { Holds meaning (state_of meaning result) (fresh (meaning.greatest (meaning.model counter))) }
+        ensures state { state_of C.meaning result ≡ unplanned (C.meaning.model counter) }
+        ensures holds { Holds C.meaning (state_of C.meaning result) (fresh (C.meaning.greatest (C.meaning.model counter))) }
     {
         Meter {
             counter,
@@ -37,7 +37,7 @@ impl<C: FrameCounter> Meter<C> {
 
     // The plan, once one was accepted.
     pub fn planned(&self) -> Option<Plan>
-        ensures { result ≡ (state_of meaning self.now).plan }
+        ensures { result ≡ (state_of C.meaning self.now).plan }
     {
         match self.layout {
             Some(layout) => Some(layout.plan()),
@@ -47,14 +47,14 @@ impl<C: FrameCounter> Meter<C> {
 
     // Whether a plan was accepted.
     pub fn is_planned(&self) -> bool
-        ensures { result ≡ is_some (state_of meaning self.now).plan }
+        ensures { result ≡ is_some (state_of C.meaning self.now).plan }
     {
         self.layout.is_some()
     }
 
     // The unit of the plan: an estimate is above the true volume by less than four units.
     pub fn unit(&self) -> Option<u64>
-        ensures { result ≡ option_map unit_of (state_of meaning self.now).plan }
+        ensures { result ≡ option_map unit_of (state_of C.meaning self.now).plan }
     {
         match self.layout {
             Some(layout) => Some(layout.unit()),
@@ -64,18 +64,18 @@ impl<C: FrameCounter> Meter<C> {
 
     // How many marks the meter keeps.
     pub fn mark_count(&self) -> usize
-        ensures count { result ≡ length ((state_of meaning self.now).older ++ (state_of meaning self.now).newer) }
-        ensures few { (l : Ledger) → Holds meaning (state_of meaning self.now) l → result ≤ 2 * (places_of l.plan - 1) }
+        ensures count { result ≡ length ((state_of C.meaning self.now).older ++ (state_of C.meaning self.now).newer) }
+        ensures few { (l : Ledger) → Holds C.meaning (state_of C.meaning self.now) l → result ≤ 2 * (places_of l.plan - 1) }
     {
         self.marks.len()
     }
 
     // Accepts a plan. The counter is opened last, when nothing else can be wrong.
     pub fn plan(&mut self, plan: Plan) -> Result<(), Refusal>
-        ensures answer { told result ≡ plan_answer meaning (state_of meaning self.old) plan }
-        ensures state { state_of meaning self.new ≡ plan_leaves meaning (state_of meaning self.old) plan }
+        ensures answer { told result ≡ plan_answer C.meaning (state_of C.meaning self.old) plan }
+        ensures state { state_of C.meaning self.new ≡ plan_leaves C.meaning (state_of C.meaning self.old) plan }
         ensures unchanged { Unchanged result self.old self.new }
-        ensures holds { (l : Ledger) → Holds meaning (state_of meaning self.old) l → Holds meaning (state_of meaning self.new) (planned l plan) }
+        ensures holds { (l : Ledger) → Holds C.meaning (state_of C.meaning self.old) l → Holds C.meaning (state_of C.meaning self.new) (planned l plan) }
     {
         if self.layout.is_some() {
             return Err(Refusal::NotTakenNow);
@@ -90,10 +90,10 @@ impl<C: FrameCounter> Meter<C> {
 
     // Begins again with an empty window under the same plan.
     pub fn restart(&mut self) -> Result<(), Refusal>
-        ensures answer { told result ≡ restart_answer meaning (state_of meaning self.old) }
-        ensures state { state_of meaning self.new ≡ restart_leaves meaning (state_of meaning self.old) }
+        ensures answer { told result ≡ restart_answer C.meaning (state_of C.meaning self.old) }
+        ensures state { state_of C.meaning self.new ≡ restart_leaves C.meaning (state_of C.meaning self.old) }
         ensures unchanged { Unchanged result self.old self.new }
-        ensures holds { (l : Ledger) → Holds meaning (state_of meaning self.old) l → Holds meaning (state_of meaning self.new) (restarted l) }
+        ensures holds { (l : Ledger) → Holds C.meaning (state_of C.meaning self.old) l → Holds C.meaning (state_of C.meaning self.new) (restarted l) }
     {
         if self.layout.is_none() {
             return Err(Refusal::NotTakenNow);
@@ -106,11 +106,11 @@ impl<C: FrameCounter> Meter<C> {
 
     // Meters a packet. Answers the counter's passes.
     pub fn packet<K: FlowKey>(&mut self, key: &K, weight: u32) -> Result<usize, Refusal>
-        ensures answer { (l : Ledger) → Holds meaning (state_of meaning self.old) l → told result ≡ packet_answer meaning (state_of meaning self.old) (coded key.now) weight }
-        ensures state { (l : Ledger) → Holds meaning (state_of meaning self.old) l → state_of meaning self.new ≡ packet_leaves meaning (state_of meaning self.old) (coded key.now) weight }
-        ensures unchanged { (l : Ledger) → Holds meaning (state_of meaning self.old) l → Unchanged result self.old self.new }
-        ensures few_passes { (l : Ledger) → Holds meaning (state_of meaning self.old) l → IfOk result (λ x. x ≤ places_of l.plan) }
-        ensures holds { (l : Ledger) → Holds meaning (state_of meaning self.old) l → Holds meaning (state_of meaning self.new) (noted l (coded key.now) weight) }
+        ensures answer { (l : Ledger) → Holds C.meaning (state_of C.meaning self.old) l → told result ≡ packet_answer C.meaning (state_of C.meaning self.old) (K.coded key.now) weight }
+        ensures state { (l : Ledger) → Holds C.meaning (state_of C.meaning self.old) l → state_of C.meaning self.new ≡ packet_leaves C.meaning (state_of C.meaning self.old) (K.coded key.now) weight }
+        ensures unchanged { (l : Ledger) → Holds C.meaning (state_of C.meaning self.old) l → Unchanged result self.old self.new }
+        ensures few_passes { (l : Ledger) → Holds C.meaning (state_of C.meaning self.old) l → IfOk result (λ x. x ≤ places_of l.plan) }
+        ensures holds { (l : Ledger) → Holds C.meaning (state_of C.meaning self.old) l → Holds C.meaning (state_of C.meaning self.new) (noted l (K.coded key.now) weight) }
     {
         let Some(layout) = self.layout else {
             return Err(Refusal::NotTakenNow);
@@ -128,8 +128,8 @@ impl<C: FrameCounter> Meter<C> {
 
     // The estimate of a flow's volume in the window.
     pub fn estimate<K: FlowKey>(&self, key: &K) -> Result<u64, Refusal>
-        ensures answer { told result ≡ estimate_answer meaning (state_of meaning self.now) (coded key.now) }
-        ensures bounds { (l : Ledger) → Holds meaning (state_of meaning self.now) l → EstimateRight l.plan l.roll (coded key.now) (told result) }
+        ensures answer { told result ≡ estimate_answer C.meaning (state_of C.meaning self.now) (K.coded key.now) }
+        ensures bounds { (l : Ledger) → Holds C.meaning (state_of C.meaning self.now) l → EstimateRight l.plan l.roll (K.coded key.now) (told result) }
     {
         let Some(layout) = self.layout else {
             return Err(Refusal::NotTakenNow);
@@ -140,7 +140,7 @@ impl<C: FrameCounter> Meter<C> {
     // At the first offset of a frame the counter is flushed, and the marks made so far are those of the previous frame.
     fn begin_frame(&mut self)
         ensures layout { self.new.layout ≡ self.old.layout }
-        ensures state { state_of meaning self.new ≡ begun meaning (state_of meaning self.old) }
+        ensures state { state_of C.meaning self.new ≡ begun C.meaning (state_of C.meaning self.old) }
     {
         if self.offset == 0 {
             self.counter.flush();
@@ -166,8 +166,8 @@ impl<C: FrameCounter> Meter<C> {
     // Adds the packet to the counter, marks it if that is due, and goes on to the next offset.
     fn count(&mut self, layout: &Layout, code: Code, weight: u32) -> Result<usize, Refusal>
         ensures layout { self.new.layout ≡ self.old.layout }
-        ensures answer { meaning.sound (meaning.model self.old.counter) → told result ≡ add_answer meaning (meaning.model self.old.counter) code weight }
-        ensures state { Room meaning layout.now.plan (state_of meaning self.old) code weight → OnOk result (state_of meaning self.new ≡ counted meaning layout.now.plan (state_of meaning self.old) code weight) }
+        ensures answer { C.meaning.sound (C.meaning.model self.old.counter) → told result ≡ add_answer C.meaning (C.meaning.model self.old.counter) code weight }
+        ensures state { Room C.meaning layout.now.plan (state_of C.meaning self.old) code weight → OnOk result (state_of C.meaning self.new ≡ counted C.meaning layout.now.plan (state_of C.meaning self.old) code weight) }
     {
         let estimate = self.counter.estimate(code);
         let passes = self.counter.add(code, weight)?;
@@ -181,7 +181,7 @@ impl<C: FrameCounter> Meter<C> {
 
     // The estimate of a flow under this plan.
     pub(crate) fn estimate_of(&self, layout: &Layout, code: Code) -> u64
-        ensures { result ≡ estimate_in meaning (state_of meaning self.now) layout.now.plan code }
+        ensures { result ≡ estimate_in C.meaning (state_of C.meaning self.now) layout.now.plan code }
     {
         let unit = layout.unit();
         let marks = self.marks.count_of(code) as u64;

@@ -24,10 +24,10 @@ impl<C: FrameCounter> Meter<C> {
         scratch: &mut [u8],
         table: &mut [Record],
     ) -> Result<usize, Refusal>
-        ensures answer { told result ≡ count_of (list_answer meaning (state_of meaning self.now) level (length scratch.old) (length table.old)) }
-        ensures table { table.new ≡ table_leaves (list_answer meaning (state_of meaning self.now) level (length scratch.old) (length table.old)) table.old }
-        ensures scratch { scratch.new ≡ scratch_leaves (list_answer meaning (state_of meaning self.now) level (length scratch.old) (length table.old)) scratch.old }
-        ensures bounds { (l : Ledger) → Holds meaning (state_of meaning self.now) l → IfOk result (λ n. ListsUnder l.plan l.roll level (take n table.new)) }
+        ensures answer { told result ≡ count_of (list_answer C.meaning (state_of C.meaning self.now) level (length scratch.old) (length table.old)) }
+        ensures table { table.new ≡ table_leaves (list_answer C.meaning (state_of C.meaning self.now) level (length scratch.old) (length table.old)) table.old }
+        ensures scratch { scratch.new ≡ scratch_leaves (list_answer C.meaning (state_of C.meaning self.now) level (length scratch.old) (length table.old)) scratch.old }
+        ensures bounds { (l : Ledger) → Holds C.meaning (state_of C.meaning self.now) l → IfOk result (λ n. ListsUnder l.plan l.roll level (take n table.new)) }
     {
         let Some(layout) = self.layout else {
             return Err(Refusal::NotTakenNow);
@@ -49,7 +49,7 @@ impl<C: FrameCounter> Meter<C> {
 
     // The record of the flow of the mark at this place, if no mark before it is of that flow and its estimate is at least the level.
     fn record_at(&self, layout: &Layout, level: u64, place: usize) -> Option<Record>
-        ensures { list_to meaning (state_of meaning self.now) layout.now.plan level (place + 1) ≡ list_to meaning (state_of meaning self.now) layout.now.plan level place ++ option_to_list result }
+        ensures { list_to C.meaning (state_of C.meaning self.now) layout.now.plan level (place + 1) ≡ list_to C.meaning (state_of C.meaning self.now) layout.now.plan level place ++ option_to_list result }
     {
         let code = self.marks.flow_at(place)?;
         let estimate = self.estimate_of(layout, code);
@@ -61,7 +61,7 @@ impl<C: FrameCounter> Meter<C> {
 
     // How many records a list has.
     fn count_listed(&self, layout: &Layout, level: u64) -> usize
-        ensures { result ≡ length (list_in meaning (state_of meaning self.now) layout.now.plan level) }
+        ensures { result ≡ length (list_in C.meaning (state_of C.meaning self.now) layout.now.plan level) }
     {
         let mut count = 0;
         for place in 0..self.marks.len() {
@@ -74,8 +74,8 @@ impl<C: FrameCounter> Meter<C> {
 
     // Writes the records of a list to the front of the table, which is long enough.
     fn write_listed(&self, layout: &Layout, level: u64, table: &mut [Record])
-        requires { length (list_in meaning (state_of meaning self.now) layout.now.plan level) ≤ length table.old }
-        ensures { table.new ≡ list_in meaning (state_of meaning self.now) layout.now.plan level ++ drop (length (list_in meaning (state_of meaning self.now) layout.now.plan level)) table.old }
+        requires { length (list_in C.meaning (state_of C.meaning self.now) layout.now.plan level) ≤ length table.old }
+        ensures { table.new ≡ list_in C.meaning (state_of C.meaning self.now) layout.now.plan level ++ drop (length (list_in C.meaning (state_of C.meaning self.now) layout.now.plan level)) table.old }
     {
         let mut count = 0;
         for place in 0..self.marks.len() {

@@ -1,7 +1,6 @@
-use Rattle.std.proofs.Common.{◌≡◌, ◌+◌, length, sym, refl, ap, ◌∙◌, subst, length-append, take-append-drop}
+use Rattle.std.proofs.Common.{◌≡◌, ◌+◌, length, sym, refl, ap, ◌∙◌, length-append, take-append-drop}
 use Rattle.frame.specs.Marked.{listed, older, newer}
 use Rattle.meter.specs.declared.meter.Meter.{Meter}
-use Rattle.meter.specs.States.{State, counted}
 use Rattle.meter.specs.Meters.{state_of}
 use Rattle.meter.proofs.Calling.{count_done, mark_put, mark_not}
 use Rattle.meter.proofs.meter.Meter.count.Goals as goal

@@ -1,4 +1,4 @@
-use Rattle.std.proofs.Common.{◌≡◌, ◌≤◌, length, sym, ap, ◌∙◌, arith, length-append, take-append-drop}
+use Rattle.std.proofs.Common.{length, sym, ap, ◌∙◌, arith, length-append, take-append-drop}
 use Rattle.std.specs.Option.{option_to_list}
 use Rattle.frame.specs.Marked.{listed}
 use Rattle.meter.specs.States.{list_to}

@@ -1,4 +1,4 @@
-use Rattle.std.proofs.Common.{◌≡◌, ◌+◌, ◌*◌, ◌%◌, ◌≤◌, ◌++◌, sym, ap, ◌∙◌, mod-lt, mul-le-mul, arith, take-append-drop}
+use Rattle.std.proofs.Common.{◌≡◌, ◌+◌, ◌≤◌, ◌++◌, sym, ap, ◌∙◌, mod-lt, mul-le-mul, arith, take-append-drop}
 use Rattle.frame.specs.Marked.{listed, older, newer}
 use Rattle.frame.specs.Marking.{marks_of, flow_estimate}
 use Rattle.meter.proofs.meter.Meter.estimate_of.Goals as goal

@@ -1,4 +1,4 @@
-use Rattle.std.proofs.Common.{◌≡◌, length, sym, ap, ◌∙◌, subst, length-append, take-append-drop}
+use Rattle.std.proofs.Common.{length, sym, ap, ◌∙◌, take-append-drop}
 use Rattle.frame.specs.Marked.{listed}
 use Rattle.meter.specs.Meters.{state_of}
 use Rattle.meter.proofs.Calling.{few_marks}

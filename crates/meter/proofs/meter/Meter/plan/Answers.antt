@@ -1,12 +1,11 @@
-use Rattle.std.proofs.Common.{◌≡◌, ℕ, false, None, Option, sym, refl, ap, ◌∙◌, subst}
+use Rattle.std.proofs.Common.{◌≡◌, ℕ, None, Option, sym, refl, ap, ◌∙◌, subst}
 use Rattle.std.specs.Option.{option_map}
 use Rattle.std.proofs.lemmas.Result.{err_from_is_err_and}
 use Rattle.flow.specs.Answers.{answered, refused}
 use Rattle.flow.specs.Refusals.{number}
 use Rattle.frame.specs.declared.layout.Layout.{Layout}
-use Rattle.frame.specs.declared.plan.Plan.{Plan}
 use Rattle.frame.specs.Plans.{judged}
-use Rattle.meter.specs.Ledgers.{Ledger, planned}
+use Rattle.meter.specs.Ledgers.{planned}
 use Rattle.meter.specs.States.{State}
 use Rattle.meter.specs.Meters.{state_of}
 use Rattle.meter.specs.Holding.{Holds}

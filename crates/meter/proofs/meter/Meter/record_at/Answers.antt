@@ -1,7 +1,7 @@
 use Rattle.std.proofs.Common.{◌≡◌, ◌+◌, List, ◌++◌, take, sym, subst, take-append-drop}
 use Rattle.std.specs.Option.{option_to_list}
 use Rattle.frame.specs.declared.marks.Mark.{Mark}
-use Rattle.frame.specs.Marked.{listed, older, newer}
+use Rattle.frame.specs.Marked.{listed}
 use Rattle.frame.specs.Marking.{flows}
 use Rattle.meter.specs.Meters.{state_of}
 use Rattle.meter.proofs.Listing.{list_old, list_low, list_high}

@@ -17,8 +17,8 @@ room g c =
     let more = ap length c.in-Some.ensures ∙ length-append (list_to m s p c.args.level n) (c.in-Some.record ∷ []) in
     omega (arith, more, c.loop-place.invariant.0, list_less m s p c.args.level (n + 1), c.requires)
 
-pub offset-bounds-table-count : goal.offset-bounds-table-count
-offset-bounds-table-count g c = omega (arith, c.loop-place.invariant.2, c.loop-place-test.true, c.len-place-end.ensures.few)
+pub offset_bounds-table-count : goal.offset_bounds-table-count
+offset_bounds-table-count g c = omega (arith, c.loop-place.invariant.2, c.loop-place-test.true, c.len-place-end.ensures.few)
 
 pub bounds-table-count : goal.bounds-table-count
 bounds-table-count g c = omega (arith, room g c, c.loop-place.auto.table)
