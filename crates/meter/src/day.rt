@@ -37,7 +37,11 @@ const BLANK: Record = Record {
 
 impl<C: FrameCounter> Meter<C> {
     // Makes a call.
-    pub fn call<K: FlowKey>(&mut self, heap: Global, call: &Call<K>) -> Result<Reply, AllocError> {
+    pub(crate) fn call<K: FlowKey>(
+        &mut self,
+        heap: Global,
+        call: &Call<K>,
+    ) -> Result<Reply, AllocError> {
         let reply = match call {
             Call::Plan(plan) => match self.plan(*plan) {
                 Ok(()) => Reply::Planned,
@@ -64,7 +68,7 @@ impl<C: FrameCounter> Meter<C> {
     }
 
     // The list at a level, in memory of its own.
-    pub fn listing(
+    pub(crate) fn listing(
         &self,
         heap: Global,
         level: u64,
@@ -79,7 +83,7 @@ impl<C: FrameCounter> Meter<C> {
 }
 
 // Makes a meter of the counter, makes the calls on it one after the other, and answers all of them.
-pub fn day<K: FlowKey, C: FrameCounter + Drop>(
+pub(crate) fn day<K: FlowKey, C: FrameCounter + Drop>(
     heap: Global,
     counter: C,
     calls: &[Call<K>],

@@ -1,13 +1,13 @@
--- The laws of a shared-deduction counter.
+-- A shared-deduction counter keeps the laws of a frame counter.
 use Rattle.std.specs.Prelude.{◌≡◌, ℕ, zero, suc, ◌+◌, ◌*◌, ◌<◌, ◌≤◌, true, List, [], ◌∷◌, replicate, ◌≢◌, refl}
-use Rattle.std.proofs.Common.{sym, ap, ◌∙◌, inl, inr, arith, add-mul, mul-add, mul-le-mul_left}
+use Rattle.std.proofs.Common.{sym, ap, ◌∙◌, subst, inl, inr, arith, add-mul, mul-add, mul-le-mul_left}
 use Rattle.std.specs.List.{AllByRecursion}
 use Rattle.std.proofs.lemmas.List.{length-replicate}
 use Rattle.std.proofs.lemmas.Bool.{cases_Bool}
 use Rattle.std.proofs.lemmas.Bool.Decides.{nat_tests}
 use Rattle.flow.specs.Answers.{Answer, answered, after}
 use Rattle.flow.specs.Limits.{most_weight, most_packets}
-use Rattle.flow.specs.Meanings.{Fresh, Grown, Rises, Distinct, sum_of, add_answer, add_leaves}
+use Rattle.flow.specs.Meanings.{Fresh, Opens, Flushes, Grown, Rises, Adds, Heavy, Distinct, sum_of, add_answer, add_leaves}
 use Rattle.flow.proofs.Codes.{same_apart}
 use Rattle.flow.specs.declared.code.Code.{Code}
 use Rattle.shared.specs.declared.place.Place.{Place}
@@ -114,6 +114,24 @@ module _ (x : SharedModel) (s : SharedSound x) (l : ℕ) (q : x.volume + x.packe
   heavy_sum codes a h =
       let sum = sum_shown x.deduction (λ k. count_of k x.held + x.deduction) x.held codes a (shown_heavy codes h) in
       omega (arith, sum, ap (λ (n : ℕ). n * x.deduction) s.long, s.sum, add-mul x.places 1 x.deduction)
+
+pub shared_opens : Opens shared_meaning
+shared_opens x n s told =
+    let some : 1 ≤ n = grind (arith, nat_tests) in
+    let one : 1 ≡ s = grind (arith, nat_tests) in
+    subst (λ (t : ℕ). Fresh shared_meaning n t 1 (shared_opened n)) one (opened_fresh n some)
+
+pub shared_flushes : Flushes shared_meaning
+shared_flushes x sound = opened_fresh x.places sound.some
+
+pub shared_adds : Adds shared_meaning
+shared_adds x k w sound told =
+    let some : 0 < w = grind (arith, nat_tests) in
+    let room : x.packets < most_packets = grind (arith, nat_tests, sound.few) in
+    (more_grown x k w sound some room, grind arith)
+
+pub shared_heavy : Heavy shared_meaning
+shared_heavy x sound l codes over distinct each = heavy_sum x sound l over codes distinct each
 
 -- a new counter is sound
 pub new_sound : SharedSound (shared_opened 1)

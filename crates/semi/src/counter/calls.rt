@@ -5,7 +5,7 @@ ghost use Rattle.flow.specs.Meanings.{add_answer, add_leaves};
 ghost use Rattle.semi.specs.Line.{holds, start};
 ghost use Rattle.semi.specs.Semi.{semi_meaning, semi_opened};
 ghost use Rattle.semi.specs.Laws.{semi_adds, semi_heavy};
-ghost use Rattle.std.proofs.Common.{rules, arith};
+ghost use Rattle.std.proofs.Common.{rules};
 
 use crate::counter::SemiOrdered;
 use crate::entry::Entry;
@@ -81,15 +81,15 @@ impl SemiOrdered {
 impl FrameCounter for SemiOrdered {
     ghost meaning = { semi_meaning };
 
-    ghost opens = { first_of (Prim.search rules, Prim.grind (arith, Self.row.coded.inj)) };
+    ghost opens = { Prim.search rules };
 
-    ghost flushes = { first_of (Prim.search rules, Prim.grind (arith, Self.row.coded.inj)) };
+    ghost flushes = { Prim.search rules };
 
     ghost adds = { semi_adds };
 
     ghost heavy = { semi_heavy };
 
-    ghost steps = { first_of (Prim.search rules, Prim.grind (arith, Self.row.coded.inj)) };
+    ghost steps = { Prim.search rules };
 
     fn open(&mut self, places: usize, step: u32) -> Result<(), Refusal> {
         if places < 1 || places > MOST_PLACES {

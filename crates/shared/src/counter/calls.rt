@@ -1,14 +1,12 @@
 // The calls of a shared-deduction counter.
 ghost use Rattle.std.specs.Prelude.{◌≡◌, ℕ, ◌-◌, ◌^◌, ◌<◌, ◌≤◌, is_some, if◌then◌else◌, nat_lt};
-ghost use Rattle.std.proofs.Common.{subst, arith, rules};
+ghost use Rattle.std.proofs.Common.{rules};
 ghost use Rattle.std.specs.Option.{unwrap_or};
 ghost use Rattle.flow.specs.Answers.{told, Unchanged};
-ghost use Rattle.flow.specs.Meanings.{add_answer, add_leaves, Fresh};
+ghost use Rattle.flow.specs.Meanings.{add_answer, add_leaves};
 ghost use Rattle.shared.specs.Places.{holds, count_of, any_empty, least};
 ghost use Rattle.shared.specs.Shared.{shared_meaning, shared_opened};
-ghost use Rattle.std.proofs.lemmas.Bool.Decides.{nat_tests};
-ghost use Rattle.shared.specs.Laws.{opened_fresh, more_grown, heavy_sum};
-ghost use Rattle.flow.specs.Limits.{most_packets};
+ghost use Rattle.shared.specs.Laws.{shared_opens, shared_flushes, shared_adds, shared_heavy};
 
 use crate::counter::SharedDeduction;
 use crate::place::Place;
@@ -118,21 +116,15 @@ impl SharedDeduction {
 impl FrameCounter for SharedDeduction {
     ghost meaning = { shared_meaning };
 
-    ghost opens = { λ x n s h.
-        let some : 1 ≤ n = Prim.grind (arith, nat_tests) in
-        let one : 1 ≡ s = Prim.grind (arith, nat_tests) in
-        subst (λ (t : ℕ). Fresh shared_meaning n t 1 (shared_opened n)) one (opened_fresh n some) };
+    ghost opens = { shared_opens };
 
-    ghost flushes = { λ x s. opened_fresh x.places s.some };
+    ghost flushes = { shared_flushes };
 
-    ghost adds = { λ x k w s h.
-        let some : 0 < w = Prim.grind (arith, nat_tests) in
-        let room : x.packets < most_packets = Prim.grind (arith, nat_tests, s.few) in
-        (more_grown x k w s some room, Prim.grind arith) };
+    ghost adds = { shared_adds };
 
-    ghost heavy = { λ x s l codes q a h. heavy_sum x s l q codes a h };
+    ghost heavy = { shared_heavy };
 
-    ghost steps = { first_of (Prim.search rules, Prim.grind (arith, Self.row.coded.inj)) };
+    ghost steps = { Prim.search rules };
 
     fn open(&mut self, places: usize, step: u32) -> Result<(), Refusal> {
         if places < 1 || places > MOST_PLACES {
