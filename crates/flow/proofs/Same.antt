@@ -1,30 +1,10 @@
--- When two keys are the same.
-use Rattle.std.proofs.Common.{◌≡◌, ◌-◌, ◌%◌, ◌^◌, ◌<◌, ◌≤◌, Bool, true, false, Ok, MatchBool, Result, sym, ap}
-use mathlib.Core.HLevel.{is_prop→PathP}
-use native.Mathlib.Bridge.{le_prop}
-use native.Mathlib.Nat.{ℕ_set}
+-- Keys are told apart by their codes.
+use Rattle.std.proofs.Common.{◌≡◌, Bool, true, false, Ok, MatchBool, Result, sym, ap}
 use Rattle.flow.specs.Codes.{same}
 use Rattle.flow.specs.Keys.{MadeOf}
 use Rattle.flow.proofs.Codes.{same_true, apart_same}
 use Rattle.flow.specs.declared.code.Code.{Code}
 use Rattle.flow.specs.declared.refusal.Refusal.{Refusal}
-use Rattle.flow.specs.declared.account.Account.{Account}
-use Rattle.flow.specs.declared.prefix.Prefix.{Prefix}
-
-pub same_prefix : (x k : Prefix) → x.address ≡ k.address → x.len ≡ k.len → x ≡ k
-same_prefix x k p q = λ i. record {
-  address = p i;
-  len = q i;
-  fits = is_prop→PathP (λ j. p j < 2 ^ 32) (λ j. le_prop) x.fits k.fits i;
-  short = is_prop→PathP (λ j. q j ≤ 32) (λ j. le_prop) x.short k.short i;
-  lawful = is_prop→PathP (λ j. p j % 2 ^ (32 - q j) ≡ 0) (λ j. ℕ_set _ _) x.lawful k.lawful i;
-}
-
-pub same_account : (x k : Account) → x.number ≡ k.number → x ≡ k
-same_account x k p = λ i. record {
-  number = p i;
-  short = is_prop→PathP (λ j. p j < 10 ^ 10) (λ j. le_prop) x.short k.short i;
-}
 
 -- keys are the same where their codes are, if no two keys share a code
 pub keys_tell : {K : Type 0} (coded : K → Code) → ((j k : K) → coded j ≡ coded k → j ≡ k) → (r : Bool) (a b : K) → r ≡ same (coded a) (coded b) → MatchBool r (a ≡ b) (a ≡ b → ⊥)
