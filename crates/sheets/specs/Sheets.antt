@@ -1,5 +1,5 @@
 -- Worked sheets of the counters, as facts about the rules. Assumes nothing.
---   flow   the code of a flow of a sheet
+--   flow            the code of a flow of a sheet
 --   A, B, C, E      such flows
 --   SemiSheet       semi-ordered, two places, step 10: A 7 and B 25, then C 3, then C 30
 --   SharedSheet     shared-deduction, two places: A 5, B 3 and C 4, then E 1
