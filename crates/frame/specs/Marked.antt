@@ -10,7 +10,7 @@ abbrev pub listed : Marks → List Mark
 listed m = take m.count m.marks
 
 abbrev pub older : Marks → List Mark
-older m = take m.old (listed m)
+older m = take m.previous (listed m)
 
 abbrev pub newer : Marks → List Mark
-newer m = drop m.old (listed m)
+newer m = drop m.previous (listed m)

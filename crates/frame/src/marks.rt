@@ -13,13 +13,13 @@ pub struct Mark {
     pub offset: u32,
 }
 
-// The marks of the previous frame, `old` of them, and then those of the present one, the oldest first.
+// The marks of the previous frame, `previous` of them, and then those of the present one, the oldest first.
 #[derive(Drop)]
 pub struct Marks {
     marks: [Mark; MOST_MARKS],
     count: usize,
-    old: usize,
+    previous: usize,
     ghost whole: { length marks ≡ 510 },
     ghost few: { count ≤ 510 },
-    ghost split: { old ≤ count },
+    ghost split: { previous ≤ count },
 }

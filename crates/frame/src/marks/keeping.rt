@@ -23,13 +23,13 @@ impl Marks {
         Marks {
             marks: [BLANK; MOST_MARKS],
             count: 0,
-            old: 0,
+            previous: 0,
         }
     }
 
     // How many marks there are.
     pub fn len(&self) -> usize
-        ensures count { result ≡ length (listed self.entry.now) }
+        ensures count { result ≡ length (listed self.now) }
         ensures few { result ≤ most_marks }
     {
         self.count
@@ -37,7 +37,7 @@ impl Marks {
 
     // How many marks a flow has.
     pub fn count_of(&self, code: Code) -> usize
-        ensures count { result ≡ marks_of code (listed self.entry.now) }
+        ensures count { result ≡ marks_of code (listed self.now) }
         ensures few { result ≤ most_marks }
     {
         let mut n = 0;
@@ -51,9 +51,9 @@ impl Marks {
 
     // The oldest mark of the previous frame.
     pub fn oldest(&self) -> Option<Mark>
-        ensures { option_to_list result ≡ take 1 (older self.entry.now) }
+        ensures { option_to_list result ≡ take 1 (older self.now) }
     {
-        if self.old == 0 {
+        if self.previous == 0 {
             return None;
         }
         Some(self.marks[0])
@@ -61,7 +61,7 @@ impl Marks {
 
     // The flow of the mark at this place, if no mark before it is of that flow.
     pub fn flow_at(&self, place: usize) -> Option<Code>
-        ensures { flows (take (place + 1) (listed self.entry.now)) ≡ flows (take place (listed self.entry.now)) ++ option_to_list result }
+        ensures { flows (take (place + 1) (listed self.now)) ≡ flows (take place (listed self.now)) ++ option_to_list result }
     {
         if place >= self.count {
             return None;
@@ -77,8 +77,8 @@ impl Marks {
 
     // Puts a mark last; where there is no room, all stays.
     pub fn put(&mut self, mark: Mark)
-        ensures older { older self.exit.now ≡ older self.entry.now }
-        ensures newer { newer self.exit.now ≡ (if nat_lt (length (listed self.entry.now)) most_marks then newer self.entry.now ++ mark ∷ [] else newer self.entry.now) }
+        ensures older { older self.new ≡ older self.old }
+        ensures newer { newer self.new ≡ (if nat_lt (length (listed self.old)) most_marks then newer self.old ++ mark ∷ [] else newer self.old) }
     {
         if self.count < MOST_MARKS {
             self.marks[self.count] = mark;
@@ -88,30 +88,30 @@ impl Marks {
 
     // Drops the oldest mark of the previous frame.
     pub fn drop_oldest(&mut self)
-        ensures older { older self.exit.now ≡ drop 1 (older self.entry.now) }
-        ensures newer { newer self.exit.now ≡ newer self.entry.now }
+        ensures older { older self.new ≡ drop 1 (older self.old) }
+        ensures newer { newer self.new ≡ newer self.old }
     {
-        if self.old > 0 {
+        if self.previous > 0 {
             self.marks.rotate_left(1);
             self.count -= 1;
-            self.old -= 1;
+            self.previous -= 1;
         }
     }
 
     // The present frame has ended: its marks are those of the previous one.
     pub fn turn(&mut self)
-        ensures older { older self.exit.now ≡ older self.entry.now ++ newer self.entry.now }
-        ensures newer { newer self.exit.now ≡ [] }
+        ensures older { older self.new ≡ older self.old ++ newer self.old }
+        ensures newer { newer self.new ≡ [] }
     {
-        self.old = self.count;
+        self.previous = self.count;
     }
 
     // Drops every mark.
     pub fn clear(&mut self)
-        ensures older { older self.exit.now ≡ [] }
-        ensures newer { newer self.exit.now ≡ [] }
+        ensures older { older self.new ≡ [] }
+        ensures newer { newer self.new ≡ [] }
     {
-        self.old = 0;
+        self.previous = 0;
         self.count = 0;
     }
 }

@@ -10,6 +10,6 @@ returns-then-self-lt-MOST_MARKS c =
     let room : s.count < length s.marks = omega arith in
     let long = length-take-le s.count s.marks (omega arith) in
     record {
-      older = older-push s.marks s.count s.old s.split c.args.mark room;
-      newer = newer-push s.marks s.count s.old s.split c.args.mark room ∙ sym (cond-true _ _ _ (lt-ltb (length (listed s)) 510 (omega arith)));
+      older = older-push s.marks s.count s.previous s.split c.args.mark room;
+      newer = newer-push s.marks s.count s.previous s.split c.args.mark room ∙ sym (cond-true _ _ _ (lt-ltb (length (listed s)) 510 (omega arith)));
     }

@@ -7,4 +7,4 @@ pub returns : goal.returns
 returns c =
     let s = c.args.self.now in
     let fits : s.count ≤ length s.marks = omega arith in
-    record { older = older_turn s.marks s.count s.old s.split fits; newer = newer_turn s.marks s.count s.old s.split fits }
+    record { older = older_turn s.marks s.count s.previous s.split fits; newer = newer_turn s.marks s.count s.previous s.split fits }

@@ -22,7 +22,7 @@ returns g c =
             layout = ap (λ (y : Meter g.row.C.Denot). y.layout) v.self-is;
             answer = added.answer;
             state = λ room.
-                let all : length (listed x.marks) ≡ length (older x.marks) + length (newer x.marks) = sym (ap length (take-append-drop x.marks.old (listed x.marks))) ∙ length-append (older x.marks) (newer x.marks) in
+                let all : length (listed x.marks) ≡ length (older x.marks) + length (newer x.marks) = sym (ap length (take-append-drop x.marks.previous (listed x.marks))) ∙ length-append (older x.marks) (newer x.marks) in
                 ap after v.self-is ∙
                 count_done m p s k w room _ _ _ _ (added.state room.is_sound) c.offset_after-self.ensures v.put.ensures.older
                 (mark_put m p s k w room c.is_due.result c.estimate-estimate.result (length (listed x.marks)) _ c.is_due.ensures c.estimate-estimate.ensures v.if-is_due.true all v.put.ensures.newer);

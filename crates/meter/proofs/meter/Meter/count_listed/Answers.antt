@@ -21,5 +21,5 @@ pub returns : goal.returns
 returns g c =
     let m = g.C.FrameCounter.meaning in
     let x = c.args.self.now in
-    let all = ap length (take-append-drop x.marks.old (listed x.marks)) in
+    let all = ap length (take-append-drop x.marks.previous (listed x.marks)) in
     c.loop-place.invariant.0 ∙ ap length (list_all m (state_of m x) c.args.layout.now.plan c.args.level c.loop-place.place (omega (arith, all, c.len-place-end.ensures.count, c.loop-place-test.false)))

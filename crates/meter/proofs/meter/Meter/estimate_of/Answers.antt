@@ -11,5 +11,5 @@ overflow_add-result-2 g c =
 pub returns : goal.returns
 returns g c =
     let x = c.args.self.now in
-    let all : c.count_of-marks.result ≡ marks_of c.args.code (older x.marks ++ newer x.marks) = c.count_of-marks.ensures.count ∙ ap (marks_of c.args.code) (sym (take-append-drop x.marks.old (listed x.marks))) in
+    let all : c.count_of-marks.result ≡ marks_of c.args.code (older x.marks ++ newer x.marks) = c.count_of-marks.ensures.count ∙ ap (marks_of c.args.code) (sym (take-append-drop x.marks.previous (listed x.marks))) in
     λ i. flow_estimate (c.unit-unit.ensures.value i) (all i) (c.estimate.ensures i)

@@ -8,5 +8,5 @@ pub returns : goal.returns
 returns g c =
     let x = c.args.self.now in
     let m = g.C.FrameCounter.meaning in
-    let all = sym (ap length (take-append-drop x.marks.old (listed x.marks))) in
+    let all = sym (ap length (take-append-drop x.marks.previous (listed x.marks))) in
     record { count = c.len.ensures.count ∙ all; few = λ l h. few_marks m g.met.C.FrameCounter.heavy (state_of m x) l h c.len.result (c.len.ensures.count ∙ all) }

@@ -50,6 +50,6 @@ returns g c =
     let x = c.args.self.now in
     let s = state_of m x in
     let p = c.args.layout.now.plan in
-    let long = ap length (take-append-drop x.marks.old (listed x.marks)) in
+    let long = ap length (take-append-drop x.marks.previous (listed x.marks)) in
     let all = list_all m s p c.args.level c.loop-place.place (omega (arith, long, c.len-place-end.ensures.count, c.loop-place-test.false)) in
     c.loop-place.invariant.1 ∙ (λ i. all i ++ drop ((c.loop-place.invariant.0 ∙ ap length all) i) c.args.table.now)
