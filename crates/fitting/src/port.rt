@@ -8,7 +8,7 @@ use flow::key::FlowKey;
 use flow::refusal::Refusal;
 
 // A port, by its number. Every number of two bytes is a port's.
-#[derive(Clone, Copy)]
+#[derive(Debug, Clone, Copy, PartialEq, Eq, Hash)]
 pub struct Port {
     number: u16,
     ghost fits: { number < 2 ^ 16 },
@@ -17,7 +17,7 @@ pub struct Port {
 impl FlowKey for Port {
     const BYTES: usize = 2;
 
-    ghost width = { 2 };
+    ghost BYTES = { 2 };
 
     ghost coded = { λ k. record { high = 0; low = k.number } };
 
@@ -29,10 +29,6 @@ impl FlowKey for Port {
 
     ghost wide = { λ k bytes h. h.0 };
 
-    fn key_bytes() -> usize {
-        Self::BYTES
-    }
-
     fn code(&self) -> Code {
         Code {
             high: 0,
@@ -41,12 +37,10 @@ impl FlowKey for Port {
     }
 
     fn of_code(code: Code) -> Result<Self, Refusal> {
-        if code.high != 0 || code.low > u64::from(u16::MAX) {
+        let (0, Ok(number)) = (code.high, u16::try_from(code.low)) else {
             return Err(Refusal::NotAKey);
-        }
-        Ok(Port {
-            number: code.low as u16,
-        })
+        };
+        Ok(Port { number })
     }
 
     fn read(bytes: &[u8]) -> Result<Self, Refusal> {

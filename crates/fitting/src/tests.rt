@@ -28,37 +28,27 @@ fn counted() -> Result<Peaked<SemiOrdered>, Refusal> {
     Ok(counter)
 }
 
-// The number of a refusal, 0 where there is none.
-fn refused(bytes: &[u8]) -> u8 {
-    match Port::read(bytes) {
-        Ok(_) => 0,
-        Err(e) => e.number(),
-    }
+// The number of the refusal, if these bytes are refused.
+fn refused(bytes: &[u8]) -> Option<u8> {
+    Port::read(bytes).err().map(Refusal::number)
 }
 
 #[test]
 fn ports_are_counted(rt: HostRuntime) -> Result<(), Fail> {
-    match counted() {
-        Ok(counter) => {
-            assert_eq!(rt; counter.estimate(Code { high: 0, low: 53 }), 29);
-            assert_eq!(rt; counter.estimate(Code { high: 0, low: 80 }), 25);
-            assert_eq!(rt; counter.estimate(Code { high: 0, low: 443 }), 42);
-            assert_eq!(rt; counter.volume(), 65);
-            assert_eq!(rt; counter.peak(), 1);
-            Ok(())
-        }
-        Err(e) => {
-            assert_eq!(rt; e.number(), 0);
-            Ok(())
-        },
-    }
+    let counter = counted()?;
+    assert_eq!(rt; counter.estimate(Code { high: 0, low: 53 }), 29);
+    assert_eq!(rt; counter.estimate(Code { high: 0, low: 80 }), 25);
+    assert_eq!(rt; counter.estimate(Code { high: 0, low: 443 }), 42);
+    assert_eq!(rt; counter.volume(), 65);
+    assert_eq!(rt; counter.peak(), 1);
+    Ok(())
 }
 
 #[test]
 fn two_bytes_spell_a_port(rt: HostRuntime) {
-    assert_eq!(rt; refused(&[0, 53]), 0);
-    assert_eq!(rt; refused(&[53]), 14);
-    assert_eq!(rt; refused(&[0, 0, 53]), 14);
+    assert_eq!(rt; refused(&[0, 53]), None);
+    assert_eq!(rt; refused(&[53]), Some(14));
+    assert_eq!(rt; refused(&[0, 0, 53]), Some(14));
 }
 
 #[test]

@@ -7,7 +7,7 @@ use Rattle.flow.specs.Answers.{answered, refused}
 use Rattle.flow.specs.Limits.{most_places, most_weight, most_packets, outside}
 use Rattle.flow.specs.Meanings.{Meaning, open_answer, add_answer}
 
-refused_not : {A : Type 0} (n : ℕ) (a : A) → refused n ≡ answered a → ⊥
+pub refused_not : {A : Type 0} (n : ℕ) (a : A) → refused n ≡ answered a → ⊥
 refused_not n a e = let z : ◌≡◌ {A = ℕ} 0 1 = cc in omega arith
 
 pub inside : (low high x : ℕ) → outside low high x ≡ false → (low ≤ x) × (x ≤ high)

@@ -15,11 +15,13 @@
 --   Steps         the greatest step is from 1 to the most that a kind may allow
 --   sum_of        the sum of a function over a list
 --   Distinct      no two elements of a list are equal
-use Rattle.std.specs.Prelude.{◌≡◌, ℕ, ◌+◌, ◌-◌, ◌*◌, ◌<◌, ◌≤◌, cond, ◌⊎◌, List, [], ◌∷◌, ◌==◌, ◌≢◌}
+use Rattle.std.specs.Prelude.{◌≡◌, ℕ, ◌+◌, ◌-◌, ◌*◌, ◌<◌, ◌≤◌, ◌⊎◌, List, [], ◌∷◌, ◌≢◌}
 use Rattle.std.specs.List.{AllByRecursion}
 use Rattle.flow.specs.declared.code.Code.{Code}
-use Rattle.flow.specs.Answers.{Answer, answered, refused, after}
-use Rattle.flow.specs.Limits.{most_places, most_step, most_weight, most_packets, outside}
+use Rattle.flow.specs.Answers.{Answer, answered, after}
+use Rattle.flow.specs.Limits.{most_step}
+use Rattle.flow.specs.Openings.{opening}
+use Rattle.flow.specs.Tallies.{admitted}
 
 abbrev pub sum_of : {A : Type 0} → (A → ℕ) → List A → ℕ
 sum_of f [] = 0
@@ -57,13 +59,13 @@ module _ {C : Type 0} (m : Meaning C) where
   bound x = m.volume x + m.packets x * (m.step x - 1)
 
   abbrev pub open_answer : m.Model → ℕ → ℕ → Answer (Unit {0})
-  open_answer x n s = cond (outside 1 most_places n) (refused 1) (cond (outside 1 (m.greatest x) s) (refused 2) (answered tt))
+  open_answer x n s = opening (m.greatest x) n s
 
   abbrev pub open_leaves : m.Model → ℕ → ℕ → m.Model
   open_leaves x n s = after (open_answer x n s) x (m.opened x n s)
 
   abbrev pub add_answer : m.Model → Code → ℕ → Answer ℕ
-  add_answer x k w = cond (outside 1 most_weight w) (refused 3) (cond (m.packets x == most_packets) (refused 4) (answered (m.passes x k w)))
+  add_answer x k w = admitted (m.packets x) w (m.passes x k w)
 
   abbrev pub add_leaves : m.Model → Code → ℕ → m.Model
   add_leaves x k w = after (add_answer x k w) x (m.added x k w)

@@ -12,7 +12,7 @@ use crate::refusal::Refusal;
 const NUMBERS: u64 = 10_000_000_000;
 
 // An account, by its number.
-#[derive(Clone, Copy)]
+#[derive(Debug, Clone, Copy, PartialEq, Eq, Hash)]
 pub struct Account {
     number: u64,
     ghost short: { number < 10 ^ 10 },
@@ -21,7 +21,7 @@ pub struct Account {
 impl FlowKey for Account {
     const BYTES: usize = 10;
 
-    ghost width = { 10 };
+    ghost BYTES = { 10 };
 
     ghost coded = { λ k. record { high = 0; low = k.number } };
 
@@ -32,10 +32,6 @@ impl FlowKey for Account {
     ghost one = { Prim.grind (arith, Self.row.coded.inj) };
 
     ghost wide = { λ k bytes h. h.0 };
-
-    fn key_bytes() -> usize {
-        Self::BYTES
-    }
 
     fn code(&self) -> Code {
         Code {
@@ -55,9 +51,10 @@ impl FlowKey for Account {
         if bytes.len() != Self::BYTES {
             return Err(Refusal::NotAKey);
         }
+        // Ten digits fit their type, so no limit is kept here as for the numbers of a text.
         let mut number: u64 = 0;
         for b in bytes {
-            if *b < b'0' || *b > b'9' {
+            if !b.is_ascii_digit() {
                 return Err(Refusal::NotAKey);
             }
             number = number * 10 + u64::from(*b - b'0');

@@ -3,17 +3,17 @@ ghost use Rattle.std.specs.Prelude.{◌≡◌};
 ghost use Rattle.flow.specs.Codes.{same};
 
 // What a key means: two whole numbers below 2^64.
-#[derive(Clone, Copy, PartialEq, Eq)]
+#[derive(Debug, Clone, Copy, PartialEq, Eq, Hash, Default)]
 pub struct Code {
     pub high: u64,
     pub low: u64,
 }
 
 impl Code {
-    // Whether two codes are equal.
+    // Whether two codes are equal, as `==` says. Callers were promised it, so it stands.
     pub fn same(self, other: Code) -> bool
         ensures { result ≡ same self other }
     {
-        self.high == other.high && self.low == other.low
+        self == other
     }
 }

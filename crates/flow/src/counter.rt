@@ -6,8 +6,9 @@ ghost use Rattle.flow.specs.Meanings.{Meaning, Opens, Flushes, Adds, Heavy, Step
 use crate::code::Code;
 use crate::refusal::Refusal;
 
-// A counter of flow volumes with a fixed number of places.
+// A counter of flow volumes with a fixed number of places. Its calls refuse what is out of range, so they take any numbers.
 // The meaning of a kind gives each counter a model, and says what a model tells and what the calls do to it.
+// Soundness is a condition of the clauses and no part of a type: a type that carried it would ask more of the kinds that are fitted.
 pub trait FrameCounter {
     ghost meaning: { Meaning Self };
 

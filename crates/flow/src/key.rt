@@ -13,17 +13,13 @@ pub trait FlowKey: Sized {
     // How many tape bytes a key takes.
     const BYTES: usize;
 
-    ghost width: { ℕ };
+    ghost BYTES: { ℕ };
 
     // the code of a key
     ghost coded: { Self → Coded };
 
     // a key is spelled by these tape bytes
     ghost spells: { Self → List ℕ → Type 0 };
-
-    // The constant `BYTES`, for generic code.
-    fn key_bytes() -> usize
-        ensures { result ≡ width };
 
     // The code of the key.
     fn code(&self) -> Code
@@ -37,21 +33,28 @@ pub trait FlowKey: Sized {
     fn read(bytes: &[u8]) -> Result<Self, Refusal>
         ensures { ReadFrom spells bytes.now result };
 
+    // The constant `BYTES`, as a call.
+    final fn key_bytes() -> usize
+        ensures { result ≡ BYTES }
+    {
+        Self::BYTES
+    }
+
     // the key made of a key's code is that key
     ghost back: { (k : Self) (r : Result Self Refused) → MadeOf coded (coded k) r → r ≡ Ok k };
 
     // no bytes spell two keys
     ghost one: { (j k : Self) (bytes : List ℕ) → spells j bytes → spells k bytes → j ≡ k };
 
-    // only as many bytes as the width spell a key
-    ghost wide: { (k : Self) (bytes : List ℕ) → spells k bytes → length bytes ≡ width };
+    // only so many bytes spell a key
+    ghost wide: { (k : Self) (bytes : List ℕ) → spells k bytes → length bytes ≡ BYTES };
 }
 
 // Whether two keys have one code.
 fn share_a_code<K: FlowKey>(a: &K, b: &K) -> bool
     ensures { result ≡ same (K.coded a.now) (K.coded b.now) }
 {
-    a.code().same(b.code())
+    a.code() == b.code()
 }
 
 // Whether two keys are of one flow: their codes tell.

@@ -8,3 +8,5 @@ pub mod key;
 pub mod limits;
 pub mod prefix;
 pub mod refusal;
+pub mod sizes;
+pub mod tally;

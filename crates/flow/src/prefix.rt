@@ -1,7 +1,8 @@
 // IPv4 prefix keys: four bytes of address and one of length.
-ghost use Rattle.std.specs.Prelude.{◌≡◌, ◌+◌, ◌-◌, ◌*◌, ◌%◌, ◌^◌, ◌<◌, ◌≤◌, length, MatchBool, ◌≢◌, slice_index};
+ghost use Rattle.std.specs.Prelude.{◌≡◌, ◌+◌, ◌-◌, ◌*◌, ◌%◌, ◌^◌, ◌<◌, ◌≤◌, length, MatchBool, MatchResult, ◌≢◌, slice_index};
 ghost use Rattle.std.proofs.Common.{arith};
 ghost use Rattle.flow.specs.Keys.{comes_back};
+ghost use Rattle.flow.specs.Refusals.{number};
 
 use crate::code::Code;
 use crate::key::FlowKey;
@@ -11,7 +12,7 @@ use crate::refusal::Refusal;
 const MOST_LENGTH: u8 = 32;
 
 // An IPv4 prefix: the address bits beyond its length are zero.
-#[derive(Clone, Copy)]
+#[derive(Debug, Clone, Copy, PartialEq, Eq, Hash)]
 pub struct Prefix {
     address: u32,
     len: u8,
@@ -28,10 +29,22 @@ fn ends_in_zeros(address: u32, len: u8) -> bool
     u64::from(address) % (1u64 << (MOST_LENGTH - len)) == 0
 }
 
+impl Prefix {
+    // The prefix of this address and length, if it is one.
+    fn new(address: u32, len: u8) -> Result<Prefix, Refusal>
+        ensures { MatchResult result (λ k. (k.address ≡ address) × (k.len ≡ len)) (λ e. (number e ≡ 14) × (len ≤ 32 → address % 2 ^ (32 - len) ≢ 0)) }
+    {
+        if len > MOST_LENGTH || !ends_in_zeros(address, len) {
+            return Err(Refusal::NotAKey);
+        }
+        Ok(Prefix { address, len })
+    }
+}
+
 impl FlowKey for Prefix {
     const BYTES: usize = 5;
 
-    ghost width = { 5 };
+    ghost BYTES = { 5 };
 
     ghost coded = { λ k. record { high = k.len; low = k.address } };
 
@@ -43,10 +56,6 @@ impl FlowKey for Prefix {
 
     ghost wide = { λ k bytes h. h.0 };
 
-    fn key_bytes() -> usize {
-        Self::BYTES
-    }
-
     fn code(&self) -> Code {
         Code {
             high: u64::from(self.len),
@@ -55,28 +64,16 @@ impl FlowKey for Prefix {
     }
 
     fn of_code(code: Code) -> Result<Self, Refusal> {
-        if code.high > u64::from(MOST_LENGTH) || code.low > u64::from(u32::MAX) {
+        let (Ok(address), Ok(len)) = (u32::try_from(code.low), u8::try_from(code.high)) else {
             return Err(Refusal::NotAKey);
-        }
-        let address = code.low as u32;
-        let len = code.high as u8;
-        if !ends_in_zeros(address, len) {
-            return Err(Refusal::NotAKey);
-        }
-        Ok(Prefix { address, len })
+        };
+        Prefix::new(address, len)
     }
 
     fn read(bytes: &[u8]) -> Result<Self, Refusal> {
         let [a, b, c, d, len] = bytes else {
             return Err(Refusal::NotAKey);
         };
-        let address = u32::from_be_bytes([*a, *b, *c, *d]);
-        if *len > MOST_LENGTH {
-            return Err(Refusal::NotAKey);
-        }
-        if !ends_in_zeros(address, *len) {
-            return Err(Refusal::NotAKey);
-        }
-        Ok(Prefix { address, len: *len })
+        Prefix::new(u32::from_be_bytes([*a, *b, *c, *d]), *len)
     }
 }

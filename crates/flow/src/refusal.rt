@@ -1,29 +1,32 @@
 // Why a call is refused.
-ghost use Rattle.std.specs.Prelude.{◌≡◌};
+ghost use Rattle.std.specs.Prelude.{◌≡◌, Some};
 ghost use Rattle.flow.specs.Refusals.{number, wording};
 
-// A refusal, by what is wrong.
-#[derive(Clone, Copy)]
+use std::error::Error;
+use std::fmt;
+
+// A refusal, by what is wrong, with the number by which it is known.
+#[derive(Debug, Clone, Copy, PartialEq, Eq, Hash)]
 pub enum Refusal {
-    PlacesOutOfRange,
-    StepOutOfRange,
-    WeightOutOfRange,
-    CounterFull,
-    GreatestWeightOutOfRange,
-    WindowOutOfRange,
-    BlocksUnfit,
-    PlacesTooFew,
-    WeightZero,
-    WeightAbovePlan,
-    LevelTooLow,
-    ScratchTooShort,
-    TableTooShort,
-    NotAKey,
-    KindOrCommandUnknown,
-    TapeEnds,
-    NotTakenNow,
-    TextTooShort,
-    TapeTooLong,
+    PlacesOutOfRange = 1,
+    StepOutOfRange = 2,
+    WeightOutOfRange = 3,
+    CounterFull = 4,
+    GreatestWeightOutOfRange = 5,
+    WindowOutOfRange = 6,
+    BlocksUnfit = 7,
+    PlacesTooFew = 8,
+    WeightZero = 9,
+    WeightAbovePlan = 10,
+    LevelTooLow = 11,
+    ScratchTooShort = 12,
+    TableTooShort = 13,
+    NotAKey = 14,
+    KindOrCommandUnknown = 15,
+    TapeEnds = 16,
+    NotTakenNow = 17,
+    TextTooShort = 18,
+    TapeTooLong = 19,
 }
 
 impl Refusal {
@@ -31,27 +34,7 @@ impl Refusal {
     pub fn number(self) -> u8
         ensures { result ≡ number self }
     {
-        match self {
-            Refusal::PlacesOutOfRange => 1,
-            Refusal::StepOutOfRange => 2,
-            Refusal::WeightOutOfRange => 3,
-            Refusal::CounterFull => 4,
-            Refusal::GreatestWeightOutOfRange => 5,
-            Refusal::WindowOutOfRange => 6,
-            Refusal::BlocksUnfit => 7,
-            Refusal::PlacesTooFew => 8,
-            Refusal::WeightZero => 9,
-            Refusal::WeightAbovePlan => 10,
-            Refusal::LevelTooLow => 11,
-            Refusal::ScratchTooShort => 12,
-            Refusal::TableTooShort => 13,
-            Refusal::NotAKey => 14,
-            Refusal::KindOrCommandUnknown => 15,
-            Refusal::TapeEnds => 16,
-            Refusal::NotTakenNow => 17,
-            Refusal::TextTooShort => 18,
-            Refusal::TapeTooLong => 19,
-        }
+        self as u8
     }
 
     // The refusal in words.
@@ -81,3 +64,13 @@ impl Refusal {
         }
     }
 }
+
+impl fmt::Display for Refusal {
+    ghost output = { λ e. Some (wording e) };
+
+    fn fmt<W: fmt::Write>(&self, f: &mut fmt::Formatter<W>) -> fmt::Result {
+        f.write_str(self.words())
+    }
+}
+
+impl Error for Refusal {}

@@ -7,16 +7,17 @@ use Rattle.std.proofs.lemmas.Str.Parse.{digit_at}
 use Rattle.std.proofs.lemmas.Str.{digit_value_digit}
 use Rattle.flow.proofs.account.AccountFlowKey.read.Goals as goal
 
-pub returns-then-b-lt48 : goal.returns-then-b-lt48
-returns-then-b-lt48 c = (refl, λ k s. let d = digit_at c.args.bytes.now c.loop-b.b-index s.1 (omega arith) in omega arith)
+pub returns-then-not-is_ascii_digit : goal.returns-then-not-is_ascii_digit
+returns-then-not-is_ascii_digit c =
+    (refl, λ k s. let d = digit_at c.args.bytes.now c.loop-b.b-index s.1 (omega arith) in grind (arith, d, c.if-not-is_ascii_digit.ensures.cases))
 
 pub loop-b-preserved : goal.loop-b-preserved
 loop-b-preserved c =
     let i = c.loop-b.b-index in
     let bs = c.args.bytes.now in
     let low : i < length bs = omega arith in
-    let d : digit_value (get_or bs i 0) + 48 ≡ get_or bs i 0 = digit_value_digit (get_or bs i 0) (omega arith, omega arith) in
-    let ds : AllDigits 10 (take (i + 1) bs) = digits_more 10 bs i low c.loop-b.invariant.0 (omega arith) in
+    let d : digit_value (get_or bs i 0) + 48 ≡ get_or bs i 0 = digit_value_digit (get_or bs i 0) c.if-not-is_ascii_digit.ensures.cases in
+    let ds : AllDigits 10 (take (i + 1) bs) = digits_more 10 bs i low c.loop-b.invariant.0 c.if-not-is_ascii_digit.ensures.bound in
     let v = digits_value_more 10 bs i low in
     let n : c.loop-b.number * 10 + c.from.result ≡ digits_value 10 (take (i + 1) bs) = omega arith in
     let len : length (take (i + 1) bs) ≡ i + 1 = simp length-take (omega arith) in
