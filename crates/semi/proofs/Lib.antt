@@ -1,4 +1,5 @@
 pub mod Orders
 pub mod Turns
 pub mod Steps
-pub mod Memory
+pub mod Places
+pub mod Kept

@@ -1,19 +1,20 @@
 -- The steps of an add, by the place of the entry of the code.
-use Rattle.std.proofs.Common.{◌≡◌, ℕ, zero, suc, ◌+◌, ◌-◌, ◌<◌, ◌≤◌, true, false, List, [], ◌∷◌, ◌++◌, length, get_or, take, drop, set, is_some, Some, None, Option, sym, refl, ap, ◌∙◌, inl, inr, mul-le-mul_right, one-mul, add-one, arith, MatchOption}
-use Rattle.semi.specs.Adding.{rest_lawful, small-start}
+use Rattle.std.proofs.Common.{◌≡◌, ℕ, zero, suc, ◌+◌, ◌-◌, ◌<◌, ◌≤◌, true, false, List, [], ◌∷◌, ◌++◌, length, get_or, take, drop, set, sym, refl, subst, cond, eqb, ltb, ap, ◌∙◌, inl, inr, mul-le-mul_right, one-mul, add-one, arith}
+use Rattle.semi.specs.Adding.{code_start, rest_lawful, small-start}
 use Rattle.semi.specs.Entries.{entry_of_absent, total-without}
 use Rattle.semi.specs.Estimates.{estimate_full, estimate_room}
-use Rattle.flow.proofs.Fronts.{front_is}
 use Rattle.semi.specs.Line.{AtLeast, CodesDiffer, Lawful, Rising, Small, added, between, blank, entering, entry_of, first_group, holds, others, passes, placed, raised, replaced, rest, start, total, value, without}
+use Rattle.semi.specs.Groups.{at_least-rest, first-least, rising_rest}
+use Rattle.std.specs.List.{refill}
 use Rattle.semi.specs.declared.entry.Entry.{Entry}
-use Rattle.flow.proofs.Codes.{same_refl, same_sym, same_true}
+use Rattle.flow.proofs.Codes.{same_refl, same_sym}
 use Rattle.flow.specs.Codes.{same}
 use Rattle.flow.specs.declared.code.Code.{Code}
-use Rattle.std.proofs.lemmas.List.{length-take-le, take_at, take-take}
-use Rattle.std.proofs.lemmas.Bool.{and_from, and_left, and_right, cases_Bool, cases_lt, cond-false, cond-true, eq-eqb, le-leb, le-ltb, lt-ltb, ne_eqb}
+use Rattle.std.proofs.lemmas.List.{append-nil, drop_all, length-append, length-drop, length-take-le, set_split, take_at, take_rest}
+use Rattle.std.proofs.lemmas.Bool.{and_from, and_left, and_right, cases_Bool, cases_lt, cond-false, cond-true, eq-eqb, eqb-false, eqb-true, le-leb, le-ltb, ne_eqb}
 use Rattle.std.proofs.lemmas.Bool.Decides.{nat_tests}
 
--- the four steps as equations
+-- the steps as equations
 module _ (n s : ℕ) (line : List Entry) (k : Code) (w : ℕ) where
   pub added_stays : holds k line ≡ true → (raised s w k (start n s line k)).group ≡ (start n s line k).group → added n s line k w ≡ replaced (raised s w k (start n s line k)) line
   added_stays h q = cond-true _ _ _ (and_from _ _ h (eq-eqb _ _ q))
@@ -21,26 +22,8 @@ module _ (n s : ℕ) (line : List Entry) (k : Code) (w : ℕ) where
   pub added_moves : holds k line ≡ true → ((raised s w k (start n s line k)).group ≡ (start n s line k).group → ⊥) → added n s line k w ≡ placed (raised s w k (start n s line k)) (without k line)
   added_moves h q = cond-false _ _ _ (and_right (holds k line) _ (ne_eqb _ _ q)) ∙ ap (placed (raised s w k (start n s line k))) (cond-true _ _ _ h)
 
-  pub added_enters : holds k line ≡ false → length line < n → added n s line k w ≡ placed (raised s w k (start n s line k)) line
-  added_enters h q = cond-false _ _ _ (and_left _ _ h) ∙ ap (placed (raised s w k (start n s line k))) (cond-false _ _ _ h ∙ cond-true _ _ _ (lt-ltb _ _ q))
-
-  pub added_evicts : holds k line ≡ false → n ≤ length line → added n s line k w ≡ placed (raised s w k (start n s line k)) (rest line)
-  added_evicts h q = cond-false _ _ _ (and_left _ _ h) ∙ ap (placed (raised s w k (start n s line k))) (cond-false _ _ _ h ∙ cond-false _ _ _ (le-ltb _ _ q))
-
   pub others_held : holds k line ≡ true → others n line k ≡ without k line
   others_held h = cond-true _ _ _ h
-
-  pub others_enters : holds k line ≡ false → length line < n → others n line k ≡ line
-  others_enters h q = cond-false _ _ _ h ∙ cond-true _ _ _ (lt-ltb _ _ q)
-
-  pub others_evicts : holds k line ≡ false → n ≤ length line → others n line k ≡ rest line
-  others_evicts h q = cond-false _ _ _ h ∙ cond-false _ _ _ (le-ltb _ _ q)
-
-  pub start_enters : holds k line ≡ false → length line < n → start n s line k ≡ record { code = k; group = 0; remainder = 0 }
-  start_enters h q = entry_of_absent k line (entering n s line k) h ∙ cond-true _ _ _ (lt-ltb _ _ q)
-
-  pub start_evicts : holds k line ≡ false → n ≤ length line → start n s line k ≡ record { code = k; group = first_group line; remainder = s - 1 }
-  start_evicts h q = entry_of_absent k line (entering n s line k) h ∙ cond-false _ _ _ (le-ltb _ _ q)
 
 pub between-same : (a : ℕ) (xs : List Entry) → between a a xs ≡ 0
 between-same a [] = refl
@@ -98,11 +81,6 @@ before_at [] i r l = grind arith
 before_at (x ∷ xs) zero r l = tt
 before_at (x ∷ xs) (suc i) r l = (at_least_at x.group xs i r.0 (omega arith), before_at xs i r.1 (omega arith))
 
-pub after_at : (xs : List Entry) (i : ℕ) → Rising xs → i < length xs → Rising (drop (suc i) xs) × AtLeast (get_or xs i blank).group (drop (suc i) xs)
-after_at [] i r l = grind arith
-after_at (x ∷ xs) zero r l = (r.1, r.0)
-after_at (x ∷ xs) (suc i) r l = after_at xs i r.1 (omega arith)
-
 pub placed_behind : (e : Entry) (g : ℕ) (xs ys : List Entry) → g ≤ e.group → AtMost g xs → placed e (xs ++ ys) ≡ xs ++ placed e ys
 placed_behind e g [] ys l a = refl
 placed_behind e g (x ∷ xs) ys l a =
@@ -132,9 +110,6 @@ module _ (n s w : ℕ) (line : List Entry) (i : ℕ) (di : CodesDiffer line) (l 
       ap (λ (x : Entry). between x.group (raised s w k x).group (others n line k)) start_at ∙
       ap (between (get_or line i blank).group (raised s w k (get_or line i blank)).group) (others_held n s line k w (holds_at line i l) ∙ without_at line i di l)
 
-  pub stays_passes : (raised s w (get_or line i blank).code (get_or line i blank)).group ≡ (get_or line i blank).group → passes n s line (get_or line i blank).code w ≡ 0
-  stays_passes q = passes_at ∙ ap (λ (b : ℕ). between (get_or line i blank).group b (take i line ++ drop (suc i) line)) q ∙ between-same (get_or line i blank).group _
-
   module _ (r : Rising line) where
     pub moves_at : ((raised s w (get_or line i blank).code (get_or line i blank)).group ≡ (get_or line i blank).group → ⊥) →
         added n s line (get_or line i blank).code w ≡ take i line ++ placed (raised s w (get_or line i blank).code (get_or line i blank)) (drop (i + 1) line)
@@ -149,32 +124,6 @@ module _ (n s w : ℕ) (line : List Entry) (i : ℕ) (di : CodesDiffer line) (l 
     pub moves_passes : passes n s line (get_or line i blank).code w ≡ between (get_or line i blank).group (raised s w (get_or line i blank).code (get_or line i blank)).group (drop (i + 1) line)
     moves_passes = rw add-one (passes_at ∙ between_behind (get_or line i blank).group _ (take i line) (drop (suc i) line) (before_at line i r l))
 
--- an add of an absent code
-module _ (n s w : ℕ) (line : List Entry) (k : Code) (h : holds k line ≡ false) where
-  pub enters_line : length line < n → added n s line k w ≡ placed (raised s w k (record { code = k; group = 0; remainder = 0 })) line
-  enters_line q = added_enters n s line k w h q ∙ ap (λ (x : Entry). placed (raised s w k x) line) (start_enters n s line k w h q)
-
-  pub enters_passes : length line < n → passes n s line k w ≡ between 0 (raised s w k (record { code = k; group = 0; remainder = 0 })).group line
-  enters_passes q =
-      ap (λ (x : Entry). between x.group (raised s w k x).group (others n line k)) (start_enters n s line k w h q) ∙
-      ap (between 0 (raised s w k (record { code = k; group = 0; remainder = 0 })).group) (others_enters n s line k w h q)
-
-  pub evicts_line : n ≤ length line → added n s line k w ≡ placed (raised s w k (record { code = k; group = first_group line; remainder = s - 1 })) (rest line)
-  evicts_line q = added_evicts n s line k w h q ∙ ap (λ (x : Entry). placed (raised s w k x) (rest line)) (start_evicts n s line k w h q)
-
-  pub evicts_passes : n ≤ length line → passes n s line k w ≡ between (first_group line) (raised s w k (record { code = k; group = first_group line; remainder = s - 1 })).group (rest line)
-  evicts_passes q =
-      ap (λ (x : Entry). between x.group (raised s w k x).group (others n line k)) (start_evicts n s line k w h q) ∙
-      ap (between (first_group line) (raised s w k (record { code = k; group = first_group line; remainder = s - 1 })).group) (others_evicts n s line k w h q)
-
-pub rest-drop : (line : List Entry) → drop 1 line ≡ rest line
-rest-drop [] = refl
-rest-drop (x ∷ xs) = refl
-
-pub first_at : (line : List Entry) → (get_or line 0 blank).group ≡ first_group line
-first_at [] = refl
-first_at (x ∷ xs) = refl
-
 pub at_least_zero : (xs : List Entry) → AtLeast 0 xs
 at_least_zero [] = tt
 at_least_zero (x ∷ xs) = (omega arith, at_least_zero xs)
@@ -184,79 +133,10 @@ small_at s [] i m l = grind arith
 small_at s (x ∷ xs) zero m l = m.0
 small_at s (x ∷ xs) (suc i) m l = small_at s xs i m.1 (omega arith)
 
--- the ends of `evict` and `enter`, over plain values
-module _ (s w : ℕ) (xs : List Entry) (k : Code) (new : Entry) (h : holds k xs ≡ false) where
-  pub evict_line : (n : ℕ) → n ≤ length xs → new ≡ raised s w k (record { code = k; group = (get_or xs 0 blank).group; remainder = s - 1 }) → (out : List Entry) →
-      out ≡ placed new (drop 1 xs) → out ≡ added n s xs k w
-  evict_line n q e out o =
-      let a = evicts_line n s w xs k h q in
-      let f = first_at xs in
-      o ∙ ap (placed new) (rest-drop xs) ∙ ap (λ (x : Entry). placed x (rest xs)) (e ∙ ap (λ (g : ℕ). raised s w k (record { code = k; group = g; remainder = s - 1 })) f) ∙ sym a
-
-  pub evict_passes : (n : ℕ) → n ≤ length xs → new ≡ raised s w k (record { code = k; group = (get_or xs 0 blank).group; remainder = s - 1 }) → (out : ℕ) →
-      out ≡ between (get_or xs 0 blank).group new.group (drop 1 xs) → out ≡ passes n s xs k w
-  evict_passes n q e out o =
-      let a = evicts_passes n s w xs k h q in
-      let f = first_at xs in
-      o ∙ ap (λ (x : Entry). between (get_or xs 0 blank).group x.group (drop 1 xs)) e ∙
-      ap (between (get_or xs 0 blank).group (raised s w k (record { code = k; group = (get_or xs 0 blank).group; remainder = s - 1 })).group) (rest-drop xs) ∙
-      ap (λ (g : ℕ). between g (raised s w k (record { code = k; group = g; remainder = s - 1 })).group (rest xs)) f ∙ sym a
-
-  pub enter_line : (n : ℕ) → length xs < n → new ≡ raised s w k (record { code = k; group = 0; remainder = 0 }) → (out cells : List Entry) → drop 1 cells ≡ xs →
-      out ≡ placed new (drop 1 cells) → out ≡ added n s xs k w
-  enter_line n q e out cells d o = o ∙ ap (placed new) d ∙ ap (λ (x : Entry). placed x xs) e ∙ sym (enters_line n s w xs k h q)
-
-  pub enter_passes : (n : ℕ) → length xs < n → new ≡ raised s w k (record { code = k; group = 0; remainder = 0 }) → (out : ℕ) (cells : List Entry) → drop 1 cells ≡ xs →
-      out ≡ between 0 new.group (drop 1 cells) → out ≡ passes n s xs k w
-  enter_passes n q e out cells d o = o ∙ ap (between 0 new.group) d ∙ ap (λ (x : Entry). between 0 x.group xs) e ∙ sym (enters_passes n s w xs k h q)
-
 pub group_bound : (s b : ℕ) (xs : List Entry) (i : ℕ) → 0 < s → i < length xs → total s xs < b → (get_or xs i blank).group < b
 group_bound s b [] i p l h = grind arith
 group_bound s b (x ∷ xs) zero p l h = omega (arith, mul-le-mul_right x.group p, one-mul x.group)
 group_bound s b (x ∷ xs) (suc i) p l h = group_bound s b xs i p (omega arith) (omega arith)
-
--- what `count` ends with: a part of the memory, written back
-module _ (n s len w : ℕ) (xs out post : List Entry) (k : Code) (r : ℕ) (short : len ≤ length xs) (kept : length out ≡ length (take (len - 0) xs)) where
-  out_length : length out ≡ len
-  out_length = kept ∙ ap length (sym (front_is len xs)) ∙ length-take-le len xs short
-
-  pub count_line : out ≡ added n s (take (len - 0) xs) k w → take len (out ++ post) ≡ added n s (take len xs) k w
-  count_line e = take_at out post len out_length ∙ e ∙ ap (λ (l : List Entry). added n s l k w) (sym (front_is len xs))
-
-  pub count_length : out ≡ added n s (take (len - 0) xs) k w → len ≡ length (added n s (take len xs) k w)
-  count_length e = sym out_length ∙ ap length (e ∙ ap (λ (l : List Entry). added n s l k w) (sym (front_is len xs)))
-
-  pub count_passes : r ≡ passes n s (take (len - 0) xs) k w → r ≡ passes n s (take len xs) k w
-  count_passes e = e ∙ ap (λ (l : List Entry). passes n s l k w) (sym (front_is len xs))
-
--- with one cell more
-module _ (n s len w : ℕ) (xs out post : List Entry) (k : Code) (r : ℕ) (short : len + 1 ≤ length xs) (kept : length out ≡ length (take (len + 1 - 0) xs)) where
-  pub cells_front : take (length (take (len + 1 - 0) xs) - 1) (take (len + 1 - 0) xs) ≡ take len xs
-  cells_front =
-      let a : length (take (len + 1 - 0) xs) ≡ len + 1 = ap length (sym (front_is (len + 1) xs)) ∙ length-take-le (len + 1) xs short in
-      let b : length (take (len + 1 - 0) xs) - 1 ≡ len = omega arith in
-      ap (λ (m : ℕ). take m (take (len + 1 - 0) xs)) b ∙ ap (take len) (sym (front_is (len + 1) xs)) ∙ take-take len (len + 1) xs (omega arith)
-
-  grown_length : length out ≡ len + 1
-  grown_length = kept ∙ ap length (sym (front_is (len + 1) xs)) ∙ length-take-le (len + 1) xs short
-
-  pub grown_line : out ≡ added n s (take (length (take (len + 1 - 0) xs) - 1) (take (len + 1 - 0) xs)) k w → take (len + 1) (out ++ post) ≡ added n s (take len xs) k w
-  grown_line e = take_at out post (len + 1) grown_length ∙ e ∙ ap (λ (l : List Entry). added n s l k w) cells_front
-
-  pub grown_more : out ≡ added n s (take (length (take (len + 1 - 0) xs) - 1) (take (len + 1 - 0) xs)) k w → len + 1 ≡ length (added n s (take len xs) k w)
-  grown_more e = sym grown_length ∙ ap length (e ∙ ap (λ (l : List Entry). added n s l k w) cells_front)
-
-  pub grown_passes : r ≡ passes n s (take (length (take (len + 1 - 0) xs) - 1) (take (len + 1 - 0) xs)) k w → r ≡ passes n s (take len xs) k w
-  grown_passes e = e ∙ ap (λ (l : List Entry). passes n s l k w) cells_front
-
--- what a code counts from, by its first place
-pub entry_of_found : (k : Code) (xs : List Entry) (i : ℕ) (d : Entry) → i < length xs → holds k (take i xs) ≡ false → same k (get_or xs i blank).code ≡ true → entry_of k xs d ≡ get_or xs i blank
-entry_of_found k [] i d l h q = grind arith
-entry_of_found k (x ∷ xs) zero d l h q = cond-true _ _ _ q
-entry_of_found k (x ∷ xs) (suc i) d l h q =
-    let a : same k x.code ≡ false = grind arith in
-    let b : holds k (take i xs) ≡ false = grind arith in
-    cond-false _ _ _ a ∙ entry_of_found k xs i d (omega arith) b q
 
 pub value-start : (n s t v : ℕ) (line : List Entry) (k : Code) → 0 < n → 0 < s → Lawful n s t v line → value s (start n s line k) ≤ total s line
 value-start n s t v line k some step l =
@@ -268,8 +148,97 @@ value-start n s t v line k some step l =
       ]
     ]
 
--- a search tells whether the line holds the code
-pub holds_found : (k : Code) (xs : List Entry) (o : Option ℕ) →
-    MatchOption o (holds k xs ≡ false) (λ i. (i < length xs) × (holds k (take i xs) ≡ false) × ((d : Entry) → same k (get_or xs i d).code ≡ true)) → is_some o ≡ holds k xs
-holds_found k xs None h = sym h
-holds_found k xs (Some i) h = sym (ap (λ (j : Code). holds j xs) (same_true _ _ (h.2 blank)) ∙ holds_at xs i h.0)
+-- the part of a line from a place
+pub rest-drop : (xs : List Entry) (i : ℕ) → rest (drop i xs) ≡ drop (i + 1) xs
+rest-drop [] zero = refl
+rest-drop [] (suc i) = rw add-one refl
+rest-drop (x ∷ xs) zero = refl
+rest-drop (x ∷ xs) (suc i) = let e : drop (suc i + 1) (x ∷ xs) ≡ drop (i + 1) xs = rw (add-one, add-one) refl in rest-drop xs i ∙ sym e
+
+pub first_group-drop : (xs : List Entry) (i : ℕ) → first_group (drop i xs) ≡ (get_or xs i blank).group
+first_group-drop [] zero = refl
+first_group-drop [] (suc i) = refl
+first_group-drop (x ∷ xs) zero = refl
+first_group-drop (x ∷ xs) (suc i) = first_group-drop xs i
+
+pub rising_drop : (xs : List Entry) (i : ℕ) → Rising xs → Rising (drop i xs)
+rising_drop [] zero r = tt
+rising_drop [] (suc i) r = tt
+rising_drop (x ∷ xs) zero r = r
+rising_drop (x ∷ xs) (suc i) r = rising_drop xs i r.1
+
+-- the entries after a loan of all of them
+pub lent : (xs ys : List Entry) → length ys ≡ length xs → refill (length xs) xs ys ≡ ys
+lent xs ys e = take_at ys (drop (length ys) xs) (length xs) e
+
+-- an add of a line ys with r passes
+pub record Adds (n s w : ℕ) (xs : List Entry) (k : Code) (ys : List Entry) (r : ℕ) : Type 0 where
+  pub line : ys ≡ added n s xs k w
+  pub passes : r ≡ passes n s xs k w
+
+-- an add to the code at a place, as `regroup` does it: later is the line from there
+module _ (n s w : ℕ) (xs : List Entry) (at : ℕ) (o : CodesDiffer xs) (rising : Rising xs) (l : at < length xs) (new : Entry) (e : new ≡ raised s w (get_or xs at blank).code (get_or xs at blank)) where
+  group_is : (raised s w (get_or xs at blank).code (get_or xs at blank)).group ≡ new.group
+  group_is = ap (λ (x : Entry). x.group) (sym e)
+
+  regrouped : (g : ℕ) → g ≡ (get_or xs at blank).group → take at xs ++ cond (eqb new.group g) (new ∷ drop (at + 1) xs) (placed new (drop (at + 1) xs)) ≡ added n s xs (get_or xs at blank).code w
+  regrouped g z = elim (cases_Bool (eqb new.group g)) [
+    | inl q ↦ let put : take at xs ++ new ∷ drop (at + 1) xs ≡ set xs at new = rw add-one (sym (set_split xs at new l)) in
+        ap (λ (ys : List Entry). take at xs ++ ys) (cond-true _ _ _ q) ∙ put ∙ ap (set xs at) e ∙ sym (stays_at n s w xs at o l (group_is ∙ eqb-true _ _ q ∙ z))
+    | inr q ↦ ap (λ (ys : List Entry). take at xs ++ ys) (cond-false _ _ _ q) ∙ ap (λ (x : Entry). take at xs ++ placed x (drop (at + 1) xs)) e ∙
+        sym (moves_at n s w xs at o l rising (λ h. eqb-false _ _ q (sym group_is ∙ h ∙ sym z)))
+  ]
+
+  pub grown : (ds later : List Entry) → ds ≡ xs → later ≡ take (length ds - at) (drop at ds) → (part : List Entry) (r : ℕ) → length part ≡ length later →
+      part ≡ cond (eqb new.group (first_group later)) (new ∷ rest later) (placed new (rest later)) → r ≡ between (first_group later) new.group (rest later) →
+      Adds n s w xs (get_or xs at blank).code (refill (length xs) xs (take at ds ++ (part ++ drop (length ds - at) (drop at ds)))) r
+  grown ds later d z part r long p count =
+      let front : take at ds ≡ take at xs = ap (take at) d in
+      let later_is : later ≡ drop at xs = z ∙ take_rest ds at ∙ ap (drop at) d in
+      let none : drop (length ds - at) (drop at ds) ≡ [] = drop_all (length ds - at) (drop at ds) (omega (arith, length-drop at ds)) in
+      let whole : take at ds ++ (part ++ drop (length ds - at) (drop at ds)) ≡ take at xs ++ part =
+      ap (λ (ys : List Entry). ys ++ (part ++ drop (length ds - at) (drop at ds))) front ∙ ap (λ (ys : List Entry). take at xs ++ (part ++ ys)) none ∙ ap (λ (ys : List Entry). take at xs ++ ys) (append-nil part) in
+      let size : length (take at xs ++ part) ≡ length xs = omega (arith, length-append (take at xs) part, length-take-le at xs (omega arith), long, ap length later_is, length-drop at xs) in
+      let behind : rest later ≡ drop (at + 1) xs = ap rest later_is ∙ rest-drop xs at in
+      let first : first_group later ≡ (get_or xs at blank).group = ap first_group later_is ∙ first_group-drop xs at in
+      record {
+        line = ap (refill (length xs) xs) whole ∙ lent xs (take at xs ++ part) size ∙
+            ap (λ (ys : List Entry). take at xs ++ ys) (p ∙ ap (λ (ys : List Entry). cond (eqb new.group (first_group later)) (new ∷ ys) (placed new ys)) behind) ∙ regrouped (first_group later) first;
+        passes = count ∙ ap (λ (g : ℕ). between g new.group (rest later)) first ∙ ap (between (get_or xs at blank).group new.group) behind ∙
+            ap (λ (b : ℕ). between (get_or xs at blank).group b (drop (at + 1) xs)) (sym group_is) ∙ sym (moves_passes n s w xs at o l rising);
+      }
+
+-- an add of an absent code, as `seat` and `settle` do it
+module _ (n s w : ℕ) (xs : List Entry) (k : Code) (absent : holds k xs ≡ false) (from : Entry) (f : from ≡ entering n s xs k) (new : Entry) (e : new ≡ raised s w from.code from) where
+  from_is : from ≡ start n s xs k
+  from_is = f ∙ sym (entry_of_absent k xs (entering n s xs k) absent)
+
+  new_is : new ≡ raised s w k (start n s xs k)
+  new_is = let code : from.code ≡ k = ap (λ (x : Entry). x.code) from_is ∙ code_start n s xs k in e ∙ ap (λ (j : Code). raised s w j from) code ∙ ap (raised s w k) from_is
+
+  others_is : cond (ltb (length xs) n) xs (rest xs) ≡ others n xs k
+  others_is = sym (cond-false _ _ _ absent)
+
+  pub entered : (es zs : List Entry) → es ≡ from ∷ cond (ltb (length xs) n) xs (rest xs) → zs ≡ es → (ys : List Entry) (r : ℕ) → length ys ≡ length zs →
+      ys ≡ placed new (rest zs) → r ≡ between (first_group zs) new.group (rest zs) → Adds n s w xs k (refill (length es) es ys) r
+  entered es zs q z ys r long line count =
+      let behind : rest zs ≡ others n xs k = ap rest (z ∙ q) ∙ others_is in
+      let first : first_group zs ≡ (start n s xs k).group = ap first_group (z ∙ q) ∙ ap (λ (x : Entry). x.group) from_is in
+      record {
+        line = lent es ys (long ∙ ap length z) ∙ line ∙ ap (placed new) behind ∙ ap (λ (x : Entry). placed x (others n xs k)) new_is ∙
+            sym (cond-false _ (replaced (raised s w k (start n s xs k)) xs) (placed (raised s w k (start n s xs k)) (others n xs k)) (and_left _ _ absent));
+        passes = count ∙ ap (λ (g : ℕ). between g new.group (rest zs)) first ∙ ap (between (start n s xs k).group new.group) behind ∙
+            ap (λ (x : Entry). between (start n s xs k).group x.group (others n xs k)) new_is;
+      }
+
+-- the line stays in order with the entry at the front
+pub rising_seated : (n s : ℕ) (xs : List Entry) (k : Code) (from : Entry) → from ≡ entering n s xs k → Rising xs → (zs : List Entry) → zs ≡ from ∷ cond (ltb (length xs) n) xs (rest xs) → Rising zs
+rising_seated n s xs k from f r zs z =
+    subst Rising (sym z) (elim (cases_Bool (ltb (length xs) n)) [
+      | inl b ↦ let g : from.group ≡ 0 = ap (λ (x : Entry). x.group) (f ∙ cond-true _ _ _ b) in
+          let a : AtLeast from.group xs = subst (λ (g : ℕ). AtLeast g xs) (sym g) (at_least_zero xs) in
+          subst (λ (ys : List Entry). Rising (from ∷ ys)) (sym (cond-true (ltb (length xs) n) xs (rest xs) b)) (a, r)
+      | inr b ↦ let g : from.group ≡ first_group xs = ap (λ (x : Entry). x.group) (f ∙ cond-false _ _ _ b) in
+          let a : AtLeast from.group (rest xs) = subst (λ (g : ℕ). AtLeast g (rest xs)) (sym g) (at_least-rest (first_group xs) xs (first-least xs r)) in
+          subst (λ (ys : List Entry). Rising (from ∷ ys)) (sym (cond-false (ltb (length xs) n) xs (rest xs) b)) (a, rising_rest xs r)
+    ])

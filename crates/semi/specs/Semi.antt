@@ -4,7 +4,7 @@
 --   semi_opened    a counter just opened with places and step
 --   semi_more      the model after an add that is not refused
 --   semi_meaning   the kind as a frame counter
-use Rattle.std.specs.Prelude.{ℕ, ◌+◌, ◌≤◌, List, [], take}
+use Rattle.std.specs.Prelude.{ℕ, ◌+◌, ◌≤◌, List, []}
 use Rattle.flow.specs.Limits.{most_packets, most_step}
 use Rattle.flow.specs.Meanings.{Meaning}
 use Rattle.flow.specs.declared.code.Code.{Code}
@@ -40,7 +40,7 @@ semi_more x k w = record {
 abbrev pub semi_meaning : Meaning SemiOrdered
 semi_meaning = record {
   Model = SemiModel;
-  model = λ c. record { places = c.places; step = c.step; packets = c.packets; volume = c.volume; line = take c.len c.entries };
+  model = λ c. record { places = c.line.sizes.places; step = c.line.sizes.step; packets = c.tally.packets; volume = c.tally.volume; line = c.line.entries.items };
   sound = SemiSound;
   places = λ x. x.places;
   step = λ x. x.step;

@@ -1,10 +1,38 @@
 // An entry of a semi-ordered counter.
+ghost use Rattle.std.specs.Prelude.{◌≡◌, ◌^◌, ◌<◌};
+ghost use Rattle.semi.specs.Line.{raised, value};
+
 use flow::code::Code;
 
 // A code that counts `step · group + remainder`.
-#[derive(Clone, Copy)]
+#[derive(Debug, Clone, Copy, PartialEq, Eq, Hash, Default)]
 pub struct Entry {
     pub code: Code,
     pub group: u64,
     pub remainder: u32,
+}
+
+impl Entry {
+    // The entry with the weight of a packet more.
+    pub(crate) fn raised(self, step: u32, weight: u32) -> Entry
+        requires steps { (0 < step) × (step < 2 ^ 22) }
+        requires sizes { (self.remainder < step) × (self.group < 2 ^ 48) }
+        requires light { weight < 2 ^ 21 }
+        ensures { result ≡ raised step weight self.code self }
+    {
+        let sum = self.remainder + weight;
+        Entry {
+            group: self.group + u64::from(sum / step),
+            remainder: sum % step,
+            ..self
+        }
+    }
+
+    // The number that the entry stands for.
+    pub(crate) fn worth(self, step: u32) -> u64
+        requires { value step self < 2 ^ 64 }
+        ensures { result ≡ value step self }
+    {
+        u64::from(step) * self.group + u64::from(self.remainder)
+    }
 }

@@ -1,204 +1,208 @@
-// The steps of an add to the line of a semi-ordered counter.
-ghost use Rattle.std.specs.Prelude.{◌≡◌, ℕ, ◌+◌, ◌-◌, ◌^◌, ◌<◌, ◌≤◌, true, false, ◌&&◌, ◌++◌, length, take, drop, MatchOption, nat_le, nat_lt, slice_index_or};
-ghost use Rattle.semi.specs.Line.{holds, placed, between, AtLeast, Rising, CodesDiffer, Small, raised, added, passes, blank, first_group, total, entering, start, value};
-ghost use Rattle.semi.specs.declared.entry.Entry.{Entry as Item};
+// The line of a semi-ordered counter, and the steps of an add to it.
+ghost use Rattle.std.specs.Prelude.{◌≡◌, ◌^◌, ◌<◌, ◌≤◌, true, false, if◌then◌else◌, ◌==◌, [], ◌∷◌, length, nat_le, nat_lt, MatchOption, slice_index_or};
+ghost use Rattle.std.specs.List.{prefix_len};
+ghost use Rattle.semi.specs.Line.{holds, placed, between, AtLeast, Rising, added, passes, first_group, rest, total, entering, start, orderly, blank};
 ghost use Rattle.flow.specs.Codes.{same};
+ghost use Rattle.flow.specs.Limits.{most_places, most_step};
 
 use crate::entry::Entry;
+use arrayvec::ArrayVec;
 use flow::code::Code;
 use flow::limits::MOST_PLACES;
+use flow::sizes::Sizes;
 
-// The place of the entry with this code.
-fn find(line: &[Entry], code: Code) -> Option<usize>
-    ensures { MatchOption result (holds code line.now ≡ false) (λ i. (i < length line.now) × (holds code (take i line.now) ≡ false) × ((d : Item) → same code (slice_index_or line.now i d).code ≡ true)) }
-{
-    for (i, e) in line.iter().enumerate() {
-        if e.code == code {
-            return Some(i);
+// Entries in the order of their groups, lowest first, with the number of places for them and the step that they count by.
+// `Sizes` cannot carry the bound of the step, since it is made with any greatest step.
+#[derive(Drop)]
+pub(crate) struct Line {
+    sizes: Sizes,
+    entries: ArrayVec<Entry, MOST_PLACES>,
+    ghost fine: { sizes.step ≤ most_step },
+    ghost few: { length entries.items ≤ sizes.places },
+    ghost order: { orderly sizes.step entries.items ≡ true },
+}
+
+impl Line {
+    // An empty line with one place and step 1.
+    pub(crate) fn smallest() -> Line
+        ensures places { result.sizes.places ≡ 1 }
+        ensures step { result.sizes.step ≡ 1 }
+        ensures entries { result.entries.items ≡ [] }
+    {
+        Line {
+            sizes: Sizes { places: 1, step: 1 },
+            entries: ArrayVec::new(),
         }
     }
-    None
-}
 
-// Whether an entry of the group `new` goes behind one of the group `next`.
-fn goes_behind(next: u64, new: u64) -> bool
-    ensures { result ≡ nat_le next new }
-{
-    next <= new
-}
+    // Empties the line, with these sizes.
+    pub(crate) fn reset(&mut self, sizes: Sizes)
+        requires { sizes.step ≤ most_step }
+        ensures sizes { self.new.sizes ≡ sizes }
+        ensures entries { self.new.entries.items ≡ [] }
+    {
+        self.sizes = sizes;
+        self.entries.clear();
+    }
 
-// Whether the group `next` is a further one strictly between: above the last that counted and below `new`.
-fn is_pass(last: u64, next: u64, new: u64) -> bool
-    ensures { result ≡ nat_lt last next && nat_lt next new }
-{
-    last < next && next < new
-}
+    // The sizes of the line.
+    pub(crate) fn sizes(&self) -> Sizes
+        ensures { result ≡ self.now.sizes }
+    {
+        self.sizes
+    }
 
-// Puts `new` in the place of the entry at `at`, and moves it behind each later one whose group is not above its own.
-// Answers how many different groups above `from` and below its own it passes.
-fn settle(line: &mut [Entry], at: usize, from: u64, new: Entry) -> usize
-    requires within { at < length line.old }
-    requires order { (Rising (drop (at + 1) line.old)) × (AtLeast from (drop (at + 1) line.old)) }
-    ensures line { line.new ≡ take at line.old ++ placed new (drop (at + 1) line.old) }
-    ensures passes { result ≡ between from new.group (drop (at + 1) line.old) }
-{
-    let mut hole = at;
-    let mut last = from;
-    let mut passed = 0;
-    while hole + 1 < line.len() && goes_behind(line[hole + 1].group, new.group) {
-        let next = line[hole + 1];
-        if is_pass(last, next.group, new.group) {
-            passed += 1;
-            last = next.group;
+    // The entries, lowest group first.
+    pub(crate) fn entries(&self) -> &[Entry]
+        ensures { result.now ≡ self.now.entries.items }
+    {
+        self.entries.as_slice()
+    }
+
+    // The place of the entry with this code. (`position` made an add an eighth slower, and an add may not get slower.)
+    fn find(&self, code: Code) -> Option<usize>
+        ensures { MatchOption result (holds code self.now.entries.items ≡ false) (λ i. (i < length self.now.entries.items) × ((slice_index_or self.now.entries.items i blank).code ≡ code)) }
+    {
+        for (i, entry) in self.entries().iter().enumerate() {
+            if entry.code == code {
+                return Some(i);
+            }
         }
-        line[hole] = next;
-        hole += 1;
+        None
     }
-    line[hole] = new;
-    passed
-}
 
-// The entry of a code that counted from this group and remainder, with the weight more.
-fn raise(code: Code, group: u64, remainder: u32, step: u32, weight: u32) -> Entry
-    requires { (0 < step) × ((remainder < step) × ((step < 2 ^ 22) × ((weight < 2 ^ 21) × (group < 2 ^ 48)))) }
-    ensures { result ≡ raised step weight code (record { code = code; group = group; remainder = remainder }) }
-{
-    let sum = remainder + weight;
-    Entry {
-        code,
-        group: group + (sum / step) as u64,
-        remainder: sum % step,
+    // Whether there is an entry of the code.
+    pub(crate) fn holds(&self, code: Code) -> bool
+        ensures { result ≡ holds code self.now.entries.items }
+    {
+        self.find(code).is_some()
     }
-}
 
-// Adds to the code of the entry at `at`.
-fn grow(line: &mut [Entry], at: usize, step: u32, weight: u32) -> usize
-    requires within { at < length line.old }
-    requires sizes { (0 < step) × ((step < 2 ^ 22) × ((weight < 2 ^ 21) × ((slice_index_or line.old at blank).group < 2 ^ 48))) }
-    requires lawful { (Rising line.old) × ((CodesDiffer line.old) × (Small step line.old)) }
-    ensures line { (n : ℕ) → line.new ≡ added n step line.old (slice_index_or line.old at blank).code weight }
-    ensures passes { (n : ℕ) → result ≡ passes n step line.old (slice_index_or line.old at blank).code weight }
-{
-    let old = line[at];
-    let new = raise(old.code, old.group, old.remainder, step, weight);
-    if new.group == old.group {
-        line[at] = new;
-        return 0;
+    // What an absent code counts from.
+    fn entering(&self, code: Code) -> Entry
+        ensures { result ≡ entering self.now.sizes.places self.now.sizes.step self.now.entries.items code }
+    {
+        if self.entries.len() < self.sizes.places {
+            return Entry {
+                code,
+                group: 0,
+                remainder: 0,
+            };
+        }
+        Entry {
+            code,
+            group: self.first_group(),
+            remainder: self.sizes.step - 1,
+        }
     }
-    settle(line, at, old.group, new)
-}
 
-// Puts `new` in the place of the first entry, and moves it as `settle` does.
-fn settle_first(line: &mut [Entry], from: u64, new: Entry) -> usize
-    requires within { 0 < length line.old }
-    requires order { (Rising (drop 1 line.old)) × (AtLeast from (drop 1 line.old)) }
-    ensures line { line.new ≡ placed new (drop 1 line.old) }
-    ensures passes { result ≡ between from new.group (drop 1 line.old) }
-{
-    settle(line, 0, from, new)
-}
+    // The group of the first entry.
+    fn first_group(&self) -> u64
+        ensures { result ≡ first_group self.now.entries.items }
+    {
+        self.entries.first().map_or(0, |e| e.group)
+    }
 
-// Adds to a code that takes the place of the first entry of a full line.
-fn evict(line: &mut [Entry], step: u32, code: Code, weight: u32) -> usize
-    requires sizes { (0 < length line.old) × ((0 < step) × ((step < 2 ^ 22) × ((weight < 2 ^ 21) × (first_group line.old < 2 ^ 48)))) }
-    requires lawful { (Rising line.old) × (holds code line.old ≡ false) }
-    ensures line { (n : ℕ) → n ≤ length line.old → line.new ≡ added n step line.old code weight }
-    ensures passes { (n : ℕ) → n ≤ length line.old → result ≡ passes n step line.old code weight }
-{
-    let first = line[0].group;
-    settle_first(line, first, raise(code, first, step - 1, step, weight))
-}
+    // What a code counts from.
+    pub(crate) fn start(&self, code: Code) -> Entry
+        ensures { result ≡ start self.now.sizes.places self.now.sizes.step self.now.entries.items code }
+    {
+        match self.find(code) {
+            Some(at) => self.entries[at],
+            None => self.entering(code),
+        }
+    }
 
-// Adds to a code that enters the line; the last cell is free.
-fn enter(cells: &mut [Entry], step: u32, code: Code, weight: u32) -> usize
-    requires sizes { (0 < length cells.old) × ((0 < step) × ((step < 2 ^ 22) × (weight < 2 ^ 21))) }
-    requires lawful { (Rising (take (length cells.old - 1) cells.old)) × (holds code (take (length cells.old - 1) cells.old) ≡ false) }
-    ensures line { (n : ℕ) → length cells.old ≤ n → cells.new ≡ added n step (take (length cells.old - 1) cells.old) code weight }
-    ensures passes { (n : ℕ) → length cells.old ≤ n → result ≡ passes n step (take (length cells.old - 1) cells.old) code weight }
-{
-    cells.rotate_right(1);
-    settle_first(cells, 0, raise(code, 0, 0, step, weight))
-}
-
-// Adds to a code of a line of `len` entries that has room for `places`. Answers the new length and the passes.
-pub(crate) fn count(
-    entries: &mut [Entry; MOST_PLACES],
-    len: usize,
-    places: usize,
-    step: u32,
-    code: Code,
-    weight: u32,
-) -> (usize, usize)
-    requires places { (len ≤ places) × ((0 < places) × (places ≤ 256)) }
-    requires sizes { (0 < step) × ((step < 2 ^ 22) × (weight < 2 ^ 21)) }
-    requires lawful { (Rising (take len entries.old)) × ((CodesDiffer (take len entries.old)) × ((Small step (take len entries.old)) × (total step (take len entries.old) < 2 ^ 48))) }
-    ensures line { take result.0 entries.new ≡ added places step (take len entries.old) code weight }
-    ensures length { result.0 ≡ length (added places step (take len entries.old) code weight) }
-    ensures passes { result.1 ≡ passes places step (take len entries.old) code weight }
-{
-    match find(&entries[0..len], code) {
-        Some(at) => (len, grow(&mut entries[0..len], at, step, weight)),
-        None => {
-            if len < places {
-                (len + 1, enter(&mut entries[0..len + 1], step, code, weight))
-            } else {
-                (len, evict(&mut entries[0..len], step, code, weight))
+    // Adds a packet: to the entry of the code, or to what the code counts from, once that stands at the front. Answers the passes.
+    pub(crate) fn add(&mut self, code: Code, weight: u32) -> usize
+        requires light { weight < 2 ^ 21 }
+        requires fits { total self.old.sizes.step self.old.entries.items < 2 ^ 48 }
+        ensures sizes { self.new.sizes ≡ self.old.sizes }
+        ensures entries { self.new.entries.items ≡ added self.old.sizes.places self.old.sizes.step self.old.entries.items code weight }
+        ensures passes { result ≡ passes self.old.sizes.places self.old.sizes.step self.old.entries.items code weight }
+    {
+        match self.find(code) {
+            Some(at) => {
+                let new = self.entries[at].raised(self.sizes.step, weight);
+                regroup(&mut self.entries[at..], new)
+            }
+            None => {
+                let start = self.entering(code);
+                seat(&mut self.entries, self.sizes.places, start);
+                settle(&mut self.entries, start.raised(self.sizes.step, weight))
             }
         }
     }
 }
 
-// The group of the first entry.
-fn first_group(line: &[Entry]) -> u64
-    ensures { result ≡ first_group line.now }
+// Puts an entry at the front, in the place of the first one where so many places are taken.
+fn seat(entries: &mut ArrayVec<Entry, MOST_PLACES>, places: usize, entry: Entry)
+    requires { (0 < places) × (places ≤ most_places) }
+    ensures { entries.new.items ≡ entry ∷ (if nat_lt (length entries.old.items) places then entries.old.items else rest entries.old.items) }
 {
-    match line {
-        [first, ..] => first.group,
-        [] => 0,
+    if entries.len() < places {
+        entries.insert(0, entry);
+    } else {
+        entries[0] = entry;
     }
 }
 
-// What an absent code counts from.
-fn entering_as(line: &[Entry], places: usize, step: u32, code: Code) -> Entry
-    requires { 0 < step }
-    ensures { result ≡ entering places step line.now code }
+// Puts `new` in the place of the first entry, where it stays if its group does, and else settles.
+fn regroup(line: &mut [Entry], new: Entry) -> usize
+    requires some { 0 < length line.old }
+    requires order { Rising line.old }
+    ensures line { line.new ≡ (if new.group == first_group line.old then new ∷ rest line.old else placed new (rest line.old)) }
+    ensures passes { result ≡ between (first_group line.old) new.group (rest line.old) }
 {
-    if line.len() < places {
-        return Entry {
-            code,
-            group: 0,
-            remainder: 0,
-        };
+    if new.group == line[0].group {
+        line[0] = new;
+        return 0;
     }
-    Entry {
-        code,
-        group: first_group(line),
-        remainder: step - 1,
-    }
+    settle(line, new)
 }
 
-// What a code counts from.
-pub(crate) fn started(line: &[Entry], places: usize, step: u32, code: Code) -> Entry
-    requires { 0 < step }
-    ensures { result ≡ start places step line.now code }
+// Puts `new` in the place of the first entry, and moves it behind each later one whose group is not above its own.
+// Answers how many different groups between the two it passes.
+fn settle(line: &mut [Entry], new: Entry) -> usize
+    requires some { 0 < length line.old }
+    requires order { Rising line.old }
+    ensures line { line.new ≡ placed new (rest line.old) }
+    ensures passes { result ≡ between (first_group line.old) new.group (rest line.old) }
 {
-    match find(line, code) {
-        Some(at) => line[at],
-        None => entering_as(line, places, step, code),
+    let way = climb(&line[1..], line[0].group, new.group);
+    line[0] = new;
+    line[..=way.entries].rotate_left(1);
+    way.passes
+}
+
+// How far an entry goes up a line: behind so many entries, past so many different groups.
+#[derive(Debug, Clone, Copy, PartialEq, Eq)]
+struct Way {
+    entries: usize,
+    passes: usize,
+}
+
+// What an entry climbs that goes from one group to another, with these entries behind it.
+// One walk for both numbers: a chain for each would walk the entries twice, and whether a group is a further one depends on the group before it.
+fn climb(later: &[Entry], from: u64, to: u64) -> Way
+    requires { (Rising later.now) × (AtLeast from later.now) }
+    ensures within { result.entries ≤ length later.now }
+    ensures entries { result.entries ≡ prefix_len (λ e. nat_le e.group to) later.now }
+    ensures passes { result.passes ≡ between from to later.now }
+{
+    let mut last = from;
+    let mut passes = 0;
+    for (entries, entry) in later.iter().enumerate() {
+        if entry.group > to {
+            return Way { entries, passes };
+        }
+        if last < entry.group && entry.group < to {
+            passes += 1;
+            last = entry.group;
+        }
     }
-}
-
-// Whether the line has an entry of the code.
-pub(crate) fn is_held(line: &[Entry], code: Code) -> bool
-    ensures { result ≡ holds code line.now }
-{
-    find(line, code).is_some()
-}
-
-// The number that an entry stands for.
-pub(crate) fn worth(step: u32, entry: Entry) -> u64
-    requires { value step entry < 2 ^ 64 }
-    ensures { result ≡ value step entry }
-{
-    step as u64 * entry.group + entry.remainder as u64
+    Way {
+        entries: later.len(),
+        passes,
+    }
 }

@@ -1,6 +1,7 @@
 // The calls of a semi-ordered counter.
 ghost use Rattle.std.specs.Prelude.{◌≡◌, ◌-◌, ◌/◌, ◌<◌, ◌≤◌, IfOk};
 ghost use Rattle.flow.specs.Answers.{told, Unchanged};
+ghost use Rattle.flow.specs.Limits.{most_step};
 ghost use Rattle.flow.specs.Meanings.{add_answer, add_leaves};
 ghost use Rattle.semi.specs.Line.{holds, start};
 ghost use Rattle.semi.specs.Semi.{semi_meaning, semi_opened};
@@ -9,17 +10,13 @@ ghost use Rattle.std.proofs.Common.{rules};
 
 use crate::counter::SemiOrdered;
 use crate::entry::Entry;
-use crate::line::{count, is_held, started, worth};
+use crate::line::Line;
 use flow::code::Code;
 use flow::counter::FrameCounter;
-use flow::limits::{MOST_PACKETS, MOST_PLACES, MOST_STEP, MOST_WEIGHT};
+use flow::limits::MOST_STEP;
 use flow::refusal::Refusal;
-
-const BLANK: Entry = Entry {
-    code: Code { high: 0, low: 0 },
-    group: 0,
-    remainder: 0,
-};
+use flow::sizes::Sizes;
+use flow::tally::Tally;
 
 impl SemiOrdered {
     // A counter as opened with 1 and 1.
@@ -27,54 +24,47 @@ impl SemiOrdered {
         ensures opened { semi_meaning.model result ≡ semi_opened 1 1 }
         ensures sound { semi_meaning.sound (semi_meaning.model result) }
     {
-        SemiOrdered::smallest()
-    }
-
-    // A counter with one place and step 1.
-    fn smallest() -> SemiOrdered
-        ensures { semi_meaning.model result ≡ semi_opened 1 1 }
-    {
         SemiOrdered {
-            places: 1,
-            step: 1,
-            packets: 0,
-            volume: 0,
-            len: 0,
-            entries: [BLANK; MOST_PLACES],
+            line: Line::smallest(),
+            tally: Tally::new(),
         }
     }
 
-    // Empties the counter, with so many places and this step.
-    fn reset(&mut self, places: usize, step: u32)
-        requires { (0 < places) × ((places ≤ 256) × ((0 < step) × (step ≤ 2097153))) }
-        ensures { semi_meaning.model self.new ≡ semi_opened places step }
+    // Empties the counter, with these sizes.
+    fn reset(&mut self, sizes: Sizes)
+        requires { sizes.step ≤ most_step }
+        ensures { semi_meaning.model self.new ≡ semi_opened sizes.places sizes.step }
     {
-        self.places = places;
-        self.step = step;
-        self.packets = 0;
-        self.volume = 0;
-        self.len = 0;
+        self.line.reset(sizes);
+        self.tally = Tally::new();
+    }
+
+    // The sizes of the counter.
+    fn sizes(&self) -> Sizes
+        ensures { result ≡ self.now.line.sizes }
+    {
+        self.line.sizes()
     }
 
     // The line, lowest group first.
     pub fn line(&self) -> &[Entry]
         ensures { result.now ≡ (semi_meaning.model self.now).line }
     {
-        &self.entries[0..self.len]
+        self.line.entries()
     }
 
     // Whether the line has an entry of the code.
     pub fn holds(&self, code: Code) -> bool
         ensures { result ≡ holds code (semi_meaning.model self.now).line }
     {
-        is_held(&self.entries[0..self.len], code)
+        self.line.holds(code)
     }
 
     // What the code counts from: its own entry, or the one with which it would enter.
     pub fn start(&self, code: Code) -> Entry
         ensures { result ≡ start (semi_meaning.model self.now).places (semi_meaning.model self.now).step (semi_meaning.model self.now).line code }
     {
-        started(&self.entries[0..self.len], self.places, self.step, code)
+        self.line.start(code)
     }
 }
 
@@ -92,18 +82,12 @@ impl FrameCounter for SemiOrdered {
     ghost steps = { Prim.search rules };
 
     fn open(&mut self, places: usize, step: u32) -> Result<(), Refusal> {
-        if places < 1 || places > MOST_PLACES {
-            return Err(Refusal::PlacesOutOfRange);
-        }
-        if step < 1 || step > MOST_STEP {
-            return Err(Refusal::StepOutOfRange);
-        }
-        self.reset(places, step);
+        self.reset(Sizes::of(places, step, MOST_STEP)?);
         Ok(())
     }
 
     fn flush(&mut self) {
-        self.reset(self.places, self.step);
+        self.reset(self.sizes());
     }
 
     fn add(&mut self, code: Code, weight: u32) -> Result<usize, Refusal>
@@ -112,48 +96,32 @@ impl FrameCounter for SemiOrdered {
         ensures unchanged { Unchanged result self.old self.new }
         ensures few_passes { IfOk result (λ p. p ≤ (weight - 1) / (semi_meaning.model self.old).step) }
     {
-        if weight < 1 || weight > MOST_WEIGHT {
-            return Err(Refusal::WeightOutOfRange);
-        }
-        if self.packets == MOST_PACKETS {
-            return Err(Refusal::CounterFull);
-        }
-        let (len, passes) = count(
-            &mut self.entries,
-            self.len,
-            self.places,
-            self.step,
-            code,
-            weight,
-        );
-        self.len = len;
-        self.packets += 1;
-        self.volume += weight as u64;
-        Ok(passes)
+        self.tally = self.tally.with(weight)?;
+        Ok(self.line.add(code, weight))
     }
 
     fn estimate(&self, code: Code) -> u64 {
-        worth(self.step, self.start(code))
+        self.start(code).worth(self.sizes().step)
     }
 
     fn places(&self) -> usize {
-        self.places
+        self.sizes().places
     }
 
     fn step(&self) -> u32 {
-        self.step
+        self.sizes().step
     }
 
     fn packets(&self) -> u32
         ensures { result ≡ (semi_meaning.model self.now).packets }
     {
-        self.packets
+        self.tally.packets()
     }
 
     fn volume(&self) -> u64
         ensures { result ≡ (semi_meaning.model self.now).volume }
     {
-        self.volume
+        self.tally.volume()
     }
 
     fn greatest_step(&self) -> u32 {

@@ -1,37 +1,28 @@
-use Rattle.std.proofs.Common.{◌+◌, ◌∷◌, get_or, drop, sym, ◌∙◌, arith}
-use Rattle.semi.proofs.Turns.{Turned, end_above, end_last, line_end, sofar_more, sofar_next, turn_none, turn_pass}
-use Rattle.semi.specs.Line.{blank}
-use Rattle.std.proofs.lemmas.Bool.{leb-false, leb-true}
+use Rattle.std.proofs.Common.{◌≡◌, ℕ, Bool, leb, List, get_or, sym, ap, ◌∙◌, subst}
+use Rattle.semi.proofs.Places.{Parts, later_is, parts_front, rising_later, settled}
+use Rattle.semi.proofs.Steps.{first_group-drop}
+use Rattle.semi.specs.Groups.{rising_rest}
+use Rattle.semi.specs.Line.{AtLeast, Rising, between, blank, rest}
+use Rattle.semi.specs.declared.entry.Entry.{Entry}
+use Rattle.std.specs.List.{prefix_len}
 use Rattle.semi.proofs.line.settle.Goals as goal
-use Rattle.semi.proofs.line.settle.Goals.{then-is_pass, else-is_pass, then-loop-hole-test+else-goes_behind, else-loop-hole-test}
 
--- what a turn did to `last` and `passed`
-turned : (c : goal.Joined-is_pass) →
-    Turned c.args.new c.loop-hole.last c.loop-hole.passed
-    (get_or c.loop-hole.line (c.loop-hole.hole + 1) blank ∷ drop (c.loop-hole.hole + 1 + 1) c.loop-hole.line)
-    c.if-is_pass.last c.if-is_pass.passed (drop (c.loop-hole.hole + 1 + 1) c.loop-hole.line)
-turned c =
-    let f = sofar_next _ _ _ _ _ _ _ _ c.loop-hole.invariant c.loop-hole-test.true in
-    elim c.if-is_pass.branch [
-      | then-is_pass w ↦ rw (w.last-is, w.passed-is) (turn_pass _ _ _ _ _ f.0 f.1 w.if-is_pass.ensures)
-      | else-is_pass w ↦ rw (w.last-is, w.passed-is) (turn_none _ _ _ _ _ f.0 f.1 w.if-is_pass.ensures)
-    ]
+pub climb-way-requires : goal.climb-way-requires
+climb-way-requires c =
+    let xs = c.args.line.now in
+    subst (λ (ys : List Entry). Rising ys × AtLeast (get_or xs 0 blank).group ys) (sym (later_is xs)) (rising_later xs c.requires.some c.requires.order)
 
-pub loop-hole-preserved : goal.loop-hole-preserved
-loop-hole-preserved c =
-    sofar_more _ _ _ _ _ _ _ _ _ _ c.loop-hole.invariant c.loop-hole-test.true (leb-true _ _ (sym c.if-goes_behind.ensures)) (turned c)
+pub returns-clause-line : goal.returns-clause-line
+returns-clause-line c =
+    let xs = c.args.line.now in
+    let g = c.args.new.group in
+    let p : Entry → Bool = λ e. leb e.group g in
+    let at : c.climb-way.result.entries ≡ prefix_len p (rest xs) = c.climb-way.ensures.entries ∙ ap (prefix_len p) (later_is xs) in
+    let parts : Parts g c.climb-way.result.entries (rest xs) = subst (λ (i : ℕ). Parts g i (rest xs)) (sym at) (parts_front g (rest xs) (rising_rest xs c.requires.order)) in
+    settled xs c.args.new c.climb-way.result.entries c.rotate_left.new.self c.requires.some parts c.rotate_left.ensures.after
 
-pub returns : goal.returns
-returns c =
-    let xs = c.loop-hole.line in
-    let h = c.loop-hole.hole in
-    let new = c.args.new in
-    let s = c.loop-hole.invariant in
-    elim c.loop-hole-test.branch [
-      | then-loop-hole-test+else-goes_behind w ↦
-          let e = end_above xs h new w.loop-hole-test.true (leb-false _ _ (sym w.if-goes_behind.ensures)) s.rising in
-          record { line = line_end xs h new s.within e.0 ∙ s.line; passes = omega (arith, e.1 c.loop-hole.last, s.counted) }
-      | else-loop-hole-test w ↦
-          let e = end_last xs h new w.loop-hole-test.false in
-          record { line = line_end xs h new s.within e.0 ∙ s.line; passes = omega (arith, e.1 c.loop-hole.last, s.counted) }
-    ]
+pub returns-clause-passes : goal.returns-clause-passes
+returns-clause-passes c =
+    let xs = c.args.line.now in
+    c.climb-way.ensures.passes ∙ ap (between (get_or xs 0 blank).group c.args.new.group) (later_is xs) ∙
+    ap (λ (g : ℕ). between g c.args.new.group (rest xs)) (sym (first_group-drop xs 0))

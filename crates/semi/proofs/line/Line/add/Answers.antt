@@ -1,0 +1,74 @@
+use Rattle.std.proofs.Common.{◌∙◌, ◌^◌, refl}
+use Rattle.semi.proofs.Kept.{line_kept}
+use Rattle.semi.proofs.Orders.{orderly_from}
+use Rattle.semi.proofs.Steps.{entered, group_bound, grown, rising_drop, rising_seated, small_at}
+use Rattle.std.proofs.lemmas.List.{take_rest}
+use Rattle.semi.proofs.line.Line.add.Goals as goal
+
+-- a held code
+pub raised-new-requires-clause-sizes : goal.raised-new-requires-clause-sizes
+raised-new-requires-clause-sizes c =
+    let m = c.args.self.now in
+    let xs = m.entries.items in
+    rw c.deref.ensures.0 (
+      small_at m.sizes.step xs c.in-Some.at (orderly_from m.sizes.step xs m.order).2 c.in-Some.ensures.0,
+      group_bound m.sizes.step (2 ^ 48) xs c.in-Some.at m.sizes.step_in c.in-Some.ensures.0 c.requires.fits,
+    )
+
+pub regroup-requires-clause-order : goal.regroup-requires-clause-order
+regroup-requires-clause-order c =
+    let m = c.args.self.now in
+    let xs = m.entries.items in
+    rw (c.deref_mut.ensures.value, take_rest xs c.in-Some.at) (rising_drop xs c.in-Some.at (orderly_from m.sizes.step xs m.order).0)
+
+pub invariant_of-self : goal.invariant_of-self
+invariant_of-self c =
+    let m = c.args.self.now in
+    let xs = m.entries.items in
+    let p = orderly_from m.sizes.step xs m.order in
+    let e = rw c.deref.ensures.0 at c.raised-new.ensures in
+    let a = grown m.sizes.places m.sizes.step c.args.weight xs c.in-Some.at p.1 p.0 c.in-Some.ensures.0 c.raised-new.result e _ _ c.deref_mut.ensures.value refl _ _ c.regroup.auto.line c.regroup.ensures.line c.regroup.ensures.passes in
+    let k = line_kept m.sizes.places m.sizes.step c.args.weight xs _ _ m.sizes.places_in.0 m.sizes.step_in m.few m.order a.line in
+    record { fine = m.fine; few = k.0; order = k.1 }
+
+pub returns-in-Some-clause-entries : goal.returns-in-Some-clause-entries
+returns-in-Some-clause-entries c =
+    let m = c.args.self.now in
+    let xs = m.entries.items in
+    let p = orderly_from m.sizes.step xs m.order in
+    let e = rw c.deref.ensures.0 at c.raised-new.ensures in
+    let a = grown m.sizes.places m.sizes.step c.args.weight xs c.in-Some.at p.1 p.0 c.in-Some.ensures.0 c.raised-new.result e _ _ c.deref_mut.ensures.value refl _ _ c.regroup.auto.line c.regroup.ensures.line c.regroup.ensures.passes in
+    rw c.in-Some.ensures.1 at a.line
+
+pub returns-in-Some-clause-passes : goal.returns-in-Some-clause-passes
+returns-in-Some-clause-passes c =
+    let m = c.args.self.now in
+    let xs = m.entries.items in
+    let p = orderly_from m.sizes.step xs m.order in
+    let e = rw c.deref.ensures.0 at c.raised-new.ensures in
+    let a = grown m.sizes.places m.sizes.step c.args.weight xs c.in-Some.at p.1 p.0 c.in-Some.ensures.0 c.raised-new.result e _ _ c.deref_mut.ensures.value refl _ _ c.regroup.auto.line c.regroup.ensures.line c.regroup.ensures.passes in
+    rw c.in-Some.ensures.1 at a.passes
+
+-- an absent code
+pub settle-requires-clause-order : goal.settle-requires-clause-order
+settle-requires-clause-order c =
+    let m = c.args.self.now in
+    let xs = m.entries.items in
+    rising_seated m.sizes.places m.sizes.step xs c.args.code _ c.entering-start.ensures (orderly_from m.sizes.step xs m.order).0 _ (c.deref_mut-in-None.ensures.value ∙ c.seat.ensures)
+
+pub invariant_of-self-in-None : goal.invariant_of-self-in-None
+invariant_of-self-in-None c =
+    let m = c.args.self.now in
+    let a = entered m.sizes.places m.sizes.step c.args.weight m.entries.items c.args.code c.in-None.ensures _ c.entering-start.ensures _ c.raised.ensures _ _ c.seat.ensures c.deref_mut-in-None.ensures.value _ _ c.settle.auto.line c.settle.ensures.line c.settle.ensures.passes in
+    let k = line_kept m.sizes.places m.sizes.step c.args.weight m.entries.items c.args.code _ m.sizes.places_in.0 m.sizes.step_in m.few m.order a.line in
+    record { fine = m.fine; few = k.0; order = k.1 }
+
+pub returns-in-None-clause-entries : goal.returns-in-None-clause-entries
+returns-in-None-clause-entries c =
+    let m = c.args.self.now in
+    (entered m.sizes.places m.sizes.step c.args.weight m.entries.items c.args.code c.in-None.ensures _ c.entering-start.ensures _ c.raised.ensures _ _ c.seat.ensures c.deref_mut-in-None.ensures.value _ _ c.settle.auto.line c.settle.ensures.line c.settle.ensures.passes).line
+
+pub returns-in-None-clause-passes : goal.returns-in-None-clause-passes
+returns-in-None-clause-passes c =
+    let m = c.args.self.now in
+    (entered m.sizes.places m.sizes.step c.args.weight m.entries.items c.args.code c.in-None.ensures _ c.entering-start.ensures _ c.raised.ensures _ _ c.seat.ensures c.deref_mut-in-None.ensures.value _ _ c.settle.auto.line c.settle.ensures.line c.settle.ensures.passes).passes
