@@ -5,8 +5,7 @@ use Rattle.std.proofs.lemmas.List.{length-map}
 use Rattle.std.proofs.lemmas.Bool.{cases_Bool, cases_lt, cond-true, cond-false, or_left, or_right, or_from, lt-ltb, le-ltb}
 use Rattle.flow.specs.Codes.{same}
 use Rattle.flow.specs.declared.code.Code.{Code}
-use Rattle.shared.specs.declared.place.Place.{Place}
-use Rattle.shared.specs.Places.{holds, count_of, any_empty, raised, entered, least, less, lowered, deducted, added, counted, tidy}
+use Rattle.shared.specs.Places.{Place, holds, count_of, any_empty, raised, entered, least, less, lowered, deducted, added, counted, tidy}
 use Rattle.shared.specs.Searches.{count_of_missing}
 use Rattle.shared.specs.Counts.{length-raised, length-entered, counted-raised, counted-entered, counted-lowered, least_within, above_least, any_empty-lowered, holds-lowered, tidy-raised, tidy-entered, tidy-lowered, count_of-raised, count_of-entered, count_of-lowered, count_of_above, count_of-raised_other, count_of-entered_other}
 

@@ -1,5 +1,5 @@
 -- A shared-deduction counter keeps the laws of a frame counter.
-use Rattle.std.specs.Prelude.{◌≡◌, ℕ, zero, suc, ◌+◌, ◌*◌, ◌<◌, ◌≤◌, true, List, [], ◌∷◌, replicate, ◌≢◌, refl}
+use Rattle.std.specs.Prelude.{◌≡◌, ℕ, zero, suc, ◌+◌, ◌*◌, ◌<◌, ◌≤◌, true, List, [], ◌∷◌, replicate, None, ◌≢◌, refl}
 use Rattle.std.proofs.Common.{sym, ap, ◌∙◌, subst, inl, inr, arith, add-mul, mul-add, mul-le-mul_left}
 use Rattle.std.specs.List.{AllByRecursion}
 use Rattle.std.proofs.lemmas.List.{length-replicate}
@@ -10,30 +10,29 @@ use Rattle.flow.specs.Limits.{most_weight, most_packets}
 use Rattle.flow.specs.Meanings.{Fresh, Opens, Flushes, Grown, Rises, Adds, Heavy, Distinct, sum_of, add_answer, add_leaves}
 use Rattle.flow.proofs.Codes.{same_apart}
 use Rattle.flow.specs.declared.code.Code.{Code}
-use Rattle.shared.specs.declared.place.Place.{Place}
-use Rattle.shared.specs.declared.place.Place.TheVariants.{Empty}
-use Rattle.shared.specs.Places.{holds, count_of, deducted, added, counted, tidy}
+use Rattle.shared.specs.Places.{Place, holds, count_of, deducted, added, counted, tidy}
 use Rattle.shared.specs.Shared.{SharedModel, SharedSound, shared_opened, shared_more, shared_meaning}
 use Rattle.shared.specs.Searches.{count_of_missing, count_of_within}
 use Rattle.shared.specs.Deductions.{length-added, tidy-added, counted-added, own_added, other_added}
-use Rattle.shared.specs.Shares.{Shown, sum_shown}
+use Rattle.flow.proofs.Sums.{Shown}
+use Rattle.shared.specs.Shares.{holding, sum_shown}
 
 -- places that are all empty
-pub tidy_empty : (n : ℕ) → tidy (replicate n Empty) ≡ true
+pub tidy_empty : (n : ℕ) → tidy (replicate n None) ≡ true
 tidy_empty zero = refl
 tidy_empty (suc n) = tidy_empty n
 
-pub counted_empty : (n : ℕ) → counted (replicate n Empty) ≡ 0
+pub counted_empty : (n : ℕ) → counted (replicate n None) ≡ 0
 counted_empty zero = refl
 counted_empty (suc n) = counted_empty n
 
-count_of_empty : (k : Code) (n : ℕ) → count_of k (replicate n Empty) ≡ 0
+count_of_empty : (k : Code) (n : ℕ) → count_of k (replicate n None) ≡ 0
 count_of_empty k zero = refl
 count_of_empty k (suc n) = count_of_empty k n
 
 pub opened_fresh : (n : ℕ) → 1 ≤ n → Fresh shared_meaning n 1 1 (shared_opened n)
 opened_fresh n p = record {
-  is_sound = record { some = p; few = omega arith; long = length-replicate n Empty; tidily = tidy_empty n; sum = omega (arith, counted_empty n) };
+  is_sound = record { some = p; few = omega arith; long = length-replicate n None; tidily = tidy_empty n; sum = omega (arith, counted_empty n) };
   places_is = refl;
   step_is = refl;
   greatest_is = refl;
@@ -105,7 +104,7 @@ module _ (x : SharedModel) (s : SharedSound x) (l : ℕ) (q : x.volume + x.packe
             absurd (omega (arith, mul-le-mul_left x.places low, deduction_within x s))
       ]
 
-  shown_heavy : (codes : List Code) → AllByRecursion (λ k. l ≤ count_of k x.held + x.deduction) codes → AllByRecursion (Shown x.deduction (λ k. count_of k x.held + x.deduction) x.held) codes
+  shown_heavy : (codes : List Code) → AllByRecursion (λ k. l ≤ count_of k x.held + x.deduction) codes → AllByRecursion (Shown (holding x.deduction) (λ k. count_of k x.held + x.deduction) x.held) codes
   shown_heavy [] h = tt
   shown_heavy (k ∷ codes) h = ((held_heavy k h.0, refl), shown_heavy codes h.1)
 

@@ -4,14 +4,13 @@
 --   shared_opened    a counter just opened with so many places
 --   shared_more      the model after an add that is not refused
 --   shared_meaning   the kind as a frame counter
-use Rattle.std.specs.Prelude.{◌≡◌, ℕ, ◌+◌, ◌*◌, ◌≤◌, true, cond, ◌||◌, List, length, take, replicate}
+use Rattle.std.specs.Prelude.{◌≡◌, ℕ, ◌+◌, ◌*◌, ◌≤◌, true, cond, ◌||◌, List, length, replicate, None}
+use Rattle.arrayvec.specs.ArrayVec.{array_vec_len}
 use Rattle.flow.specs.Limits.{most_packets}
 use Rattle.flow.specs.Meanings.{Meaning}
 use Rattle.flow.specs.declared.code.Code.{Code}
-use Rattle.shared.specs.declared.place.Place.{Place}
-use Rattle.shared.specs.declared.place.Place.TheVariants.{Empty}
 use Rattle.shared.specs.declared.counter.SharedDeduction.{SharedDeduction}
-use Rattle.shared.specs.Places.{holds, count_of, any_empty, deducted, added, counted, tidy}
+use Rattle.shared.specs.Places.{Place, holds, count_of, any_empty, deducted, added, counted, tidy}
 
 pub record SharedModel : Type 0 where
   pub places : ℕ
@@ -28,7 +27,7 @@ pub record SharedSound (x : SharedModel) : Type 0 where
   pub sum : x.volume ≡ counted x.held + (x.places + 1) * x.deduction
 
 abbrev pub shared_opened : ℕ → SharedModel
-shared_opened n = record { places = n; packets = 0; volume = 0; deduction = 0; held = replicate n Empty }
+shared_opened n = record { places = n; packets = 0; volume = 0; deduction = 0; held = replicate n None }
 
 abbrev pub shared_more : SharedModel → Code → ℕ → SharedModel
 shared_more x k w = record {
@@ -42,7 +41,7 @@ shared_more x k w = record {
 abbrev pub shared_meaning : Meaning SharedDeduction
 shared_meaning = record {
   Model = SharedModel;
-  model = λ c. record { places = c.places; packets = c.packets; volume = c.volume; deduction = c.deduction; held = take c.places c.cells };
+  model = λ c. record { places = array_vec_len c.places; packets = c.tally.packets; volume = c.tally.volume; deduction = c.deduction; held = c.places.items };
   sound = SharedSound;
   places = λ x. x.places;
   step = λ _. 1;

@@ -1,22 +1,24 @@
 // The shared-deduction counter.
-ghost use Rattle.std.specs.Prelude.{◌≡◌, ◌+◌, ◌*◌, ◌<◌, ◌≤◌, true, take};
+ghost use Rattle.std.specs.Prelude.{◌≡◌, ◌+◌, ◌*◌, ◌<◌, ◌≤◌, true};
+ghost use Rattle.arrayvec.specs.ArrayVec.{array_vec_len};
+ghost use Rattle.flow.specs.Limits.{most_places};
 ghost use Rattle.shared.specs.Places.{counted, tidy};
 
 use crate::place::Place;
+use arrayvec::ArrayVec;
 use flow::limits::MOST_PLACES;
+use flow::tally::Tally;
 
 pub mod calls;
 
-// A counter whose places share one deduction. The first `places` cells are its places.
+// A counter whose places share one deduction.
 #[derive(Drop)]
 pub struct SharedDeduction {
-    places: usize,
-    packets: u32,
-    volume: u64,
+    tally: Tally,
     deduction: u64,
-    cells: [Place; MOST_PLACES],
-    ghost places_in: { (0 < places) × (places ≤ 256) },
-    ghost packets_in: { (packets ≤ 16777216) × (volume ≤ packets * 1048576) },
-    ghost order: { tidy (take places cells) ≡ true },
-    ghost sum: { volume ≡ counted (take places cells) + (places + 1) * deduction },
+    places: ArrayVec<Place, MOST_PLACES>,
+    ghost some: { 0 < array_vec_len places },
+    ghost most: { array_vec_len places ≤ most_places },
+    ghost order: { tidy places.items ≡ true },
+    ghost sum: { tally.volume ≡ counted places.items + (array_vec_len places + 1) * deduction },
 }

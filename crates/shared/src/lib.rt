@@ -6,4 +6,4 @@ pub mod place;
 mod places;
 
 pub use counter::SharedDeduction;
-pub use place::Place;
+pub use place::{Held, Place};

@@ -1,9 +1,12 @@
 // A place of a shared-deduction counter.
 use flow::code::Code;
 
-// Empty, or a code with its count.
-#[derive(Clone, Copy)]
-pub enum Place {
-    Empty,
-    Held { code: Code, count: u64 },
+// A code with its count.
+#[derive(Debug, Clone, Copy, PartialEq, Eq, Hash)]
+pub struct Held {
+    pub code: Code,
+    pub count: u64,
 }
+
+// What a place holds. An empty place holds nothing.
+pub type Place = Option<Held>;

@@ -1,36 +1,51 @@
-// The steps of an add to the places of a shared-deduction counter.
-ghost use Rattle.std.specs.Prelude.{◌≡◌, ◌+◌, ◌^◌, ◌<◌, ◌||◌, if◌then◌else◌, Some, None};
-ghost use Rattle.shared.specs.Places.{holds, count_of, any_empty, raised, entered, least, less, lowered, added, counted};
+// The steps of an add to the places of a shared-deduction counter. They are functions of a slice: a struct round it would only hand it on. Code and weight come as the counter's `add` has them.
+ghost use Rattle.std.specs.Prelude.{◌≡◌, ◌+◌, ◌^◌, ◌<◌, ◌≤◌, ◌||◌, false, if◌then◌else◌, replicate, Some, None};
+ghost use Rattle.std.specs.List.{find};
+ghost use Rattle.flow.specs.Codes.{same};
+ghost use Rattle.flow.specs.Limits.{most_places};
+ghost use Rattle.shared.specs.Places.{held_in, holds, any_empty, raised, entered, least, less, lowered, shared_out, added, counted};
 
-use crate::place::Place;
+use crate::place::{Held, Place};
+use arrayvec::ArrayVec;
 use flow::code::Code;
+use flow::limits::MOST_PLACES;
 
-// The count of the code, 0 where no place has it.
-pub(crate) fn count_of(places: &[Place], code: Code) -> u64
-    ensures { result ≡ count_of code places.now }
+// So many empty places.
+pub(crate) fn empty(places: usize) -> ArrayVec<Place, MOST_PLACES>
+    requires { places ≤ most_places }
+    ensures { result.items ≡ replicate places None }
 {
-    for place in places {
-        if let Place::Held { code: held, count } = place {
-            if code == *held {
-                return *count;
-            }
-        }
-    }
-    0
+    let mut cells = ArrayVec::from_array_in((), [None; MOST_PLACES]);
+    cells.truncate(places);
+    cells
+}
+
+// The code with its count, where some place has it.
+pub(crate) fn find(places: &[Place], code: Code) -> Option<Held>
+    ensures { result ≡ find (λ x. same code x.code) (held_in places.now) }
+{
+    places
+        .iter()
+        .copied()
+        .flatten()
+        .find(|held| code == held.code)
 }
 
 // Raises the code's count, and says whether some place has the code.
+// This and `enter` answer whether they did it, as a set's `insert` does.
+// They are loops, since a proof knows nothing of the places once a write through `iter_mut().find(..)` is over.
 fn raise(places: &mut [Place], code: Code, weight: u64) -> bool
     requires { counted places.old + weight < 2 ^ 64 }
     ensures places { places.new ≡ raised code weight places.old }
     ensures held { result ≡ holds code places.old }
+    ensures unchanged { result ≡ false → places.new ≡ places.old }
 {
     for place in places.iter_mut() {
-        if let Place::Held { code: held, count } = place {
-            if code == *held {
-                *count += weight;
-                return true;
-            }
+        if let Some(held) = place
+            && code == held.code
+        {
+            held.count += weight;
+            return true;
         }
     }
     false
@@ -40,10 +55,11 @@ fn raise(places: &mut [Place], code: Code, weight: u64) -> bool
 fn enter(places: &mut [Place], code: Code, count: u64) -> bool
     ensures places { places.new ≡ entered code count places.old }
     ensures empty { result ≡ any_empty places.old }
+    ensures unchanged { result ≡ false → places.new ≡ places.old }
 {
     for place in places.iter_mut() {
-        if let Place::Empty = place {
-            *place = Place::Held { code, count };
+        if place.is_none() {
+            *place = Some(Held { code, count });
             return true;
         }
     }
@@ -54,38 +70,29 @@ fn enter(places: &mut [Place], code: Code, count: u64) -> bool
 pub(crate) fn any_empty(places: &[Place]) -> bool
     ensures { result ≡ any_empty places.now }
 {
-    for place in places {
-        if let Place::Empty = place {
-            return true;
-        }
-    }
-    false
+    places.iter().any(Option::is_none)
 }
 
 // The smallest of the weight and the counts.
 pub(crate) fn least_of(places: &[Place], weight: u64) -> u64
     ensures { result ≡ least weight places.now }
 {
-    let mut smallest = weight;
-    for place in places {
-        if let Place::Held { count, .. } = place {
-            smallest = smallest.min(*count);
-        }
-    }
-    smallest
+    places
+        .iter()
+        .copied()
+        .flatten()
+        .map(|held| held.count)
+        .fold(weight, u64::min)
 }
 
 // The place with its count lowered, empty where the count is used up.
 fn with_less(place: Place, by: u64) -> Place
     ensures { result ≡ less by place }
 {
-    match place {
-        Place::Held { code, count } if count > by => Place::Held {
-            code,
-            count: count - by,
-        },
-        _ => Place::Empty,
-    }
+    place.filter(|held| held.count > by).map(|held| Held {
+        count: held.count - by,
+        ..held
+    })
 }
 
 // Lowers every count.
@@ -97,7 +104,21 @@ fn lower(places: &mut [Place], by: u64)
     }
 }
 
-// Adds to the code. Where no place has it or is empty, all share the deduction, and the answer is by how much it rises.
+// Lowers every count by the smallest of the weight and the counts, and puts what is left of the weight into the lowest empty place.
+// Answers by how much every count fell.
+fn share(places: &mut [Place], code: Code, weight: u64) -> u64
+    ensures places { places.new ≡ shared_out places.old code weight }
+    ensures rise { result ≡ least weight places.old }
+{
+    let rise = least_of(places, weight);
+    lower(places, rise);
+    if rise < weight {
+        enter(places, code, weight - rise);
+    }
+    rise
+}
+
+// Adds to the code. Where no place has it or is empty, all share the weight, and the answer is by how much the deduction rises.
 pub(crate) fn add(places: &mut [Place], code: Code, weight: u64) -> Option<u64>
     requires { counted places.old + weight < 2 ^ 64 }
     ensures places { places.new ≡ added places.old code weight }
@@ -106,10 +127,5 @@ pub(crate) fn add(places: &mut [Place], code: Code, weight: u64) -> Option<u64>
     if raise(places, code, weight) || enter(places, code, weight) {
         return None;
     }
-    let rise = least_of(places, weight);
-    lower(places, rise);
-    if rise < weight {
-        enter(places, code, weight - rise);
-    }
-    Some(rise)
+    Some(share(places, code, weight))
 }

@@ -2,13 +2,16 @@
 --   is_space     a space, a tab or a carriage return
 --   in_line      any byte but a newline
 --   in_word      any byte but a space
+--   Tells        each answer to a byte is that of the test
 --   front        how many elements in front pass a test
 --   line_of      the first line, without its newline
 --   after_line   what follows the first newline
+--   TakesLine    what a step over the lines gives: the first line and what follows it, or nothing at the end
 --   unspaced     the text without the spaces in front
 --   word_of      the first word, empty where there is none
 --   after_word   what follows the first word
-use Rattle.std.specs.Prelude.{ℕ, ◌+◌, Bool, cond, not, ◌||◌, List, [], ◌∷◌, take, drop, ◌==◌}
+use Rattle.std.specs.Prelude.{◌≡◌, ◌≢◌, ℕ, ◌+◌, Bool, not, ◌||◌, List, [], take, drop, Option, Some, None, ◌==◌}
+use Rattle.std.specs.List.{prefix_len}
 
 abbrev pub is_space : ℕ → Bool
 is_space b = b == 32 || (b == 9 || b == 13)
@@ -19,15 +22,21 @@ in_line b = not (b == 10)
 abbrev pub in_word : ℕ → Bool
 in_word b = not (is_space b)
 
+abbrev pub Tells : (ℕ → Bool → Type 0) → (ℕ → Bool) → Type 0
+Tells answers test = (b : ℕ) (r : Bool) → answers b r → r ≡ test b
+
 abbrev pub front : (ℕ → Bool) → List ℕ → ℕ
-front p [] = 0
-front p (b ∷ bs) = cond (p b) (front p bs + 1) 0
+front p bs = prefix_len p bs
 
 abbrev pub line_of : List ℕ → List ℕ
 line_of bs = take (front in_line bs) bs
 
 abbrev pub after_line : List ℕ → List ℕ
 after_line bs = drop (front in_line bs + 1) bs
+
+abbrev pub TakesLine : List ℕ → Option (List ℕ) → List ℕ → Type 0
+TakesLine text None rest = (text ≡ []) × (rest ≡ [])
+TakesLine text (Some line) rest = (text ≢ []) × (line ≡ line_of text) × (rest ≡ after_line text)
 
 -- the text without the spaces in front
 abbrev pub unspaced : List ℕ → List ℕ

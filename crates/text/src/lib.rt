@@ -1,9 +1,11 @@
 // Lines, words and numbers of a text input.
 #![tactic(auto)]
 
-ghost use Rattle.std.specs.Prelude.{◌≡◌, ◌+◌, ◌-◌, ◌*◌, ◌^◌, min, MatchOption};
+ghost use Rattle.std.specs.Prelude.{◌≡◌, ℕ, Bool, ◌+◌, take, drop, ◌-◌, ◌*◌, ◌^◌, length, min, MatchOption};
+ghost use Rattle.std.specs.Iterator.{at_most};
+ghost use Rattle.std.specs.Option.{option_copied};
 ghost use Rattle.std.specs.Str.Parse.{digits_value, IsNumeral};
-ghost use Rattle.text.specs.Reading.{is_space, in_line, in_word, front, line_of, after_line, word_of, after_word};
+ghost use Rattle.text.specs.Reading.{is_space, in_line, Tells, front, line_of, after_line, TakesLine, word_of, after_word};
 
 const NEWLINE: u8 = b'\n';
 
@@ -21,40 +23,13 @@ fn is_in_line(b: u8) -> bool
     b != NEWLINE
 }
 
-// How many bytes come before the first newline.
-fn line_length(text: &[u8]) -> usize
-    ensures { result ≡ front in_line text.now }
+// The bytes in front that belong, and what follows them.
+fn split_front<P: Fn(u8) -> bool>(text: &[u8], belongs: P) -> (&[u8], &[u8])
+    requires { P.IsAlwaysCallable belongs }
+    ensures { (test : ℕ → Bool) → Tells (P.post belongs) test → (result.0.now ≡ take (front test text.now) text.now) × (result.1.now ≡ drop (front test text.now) text.now) }
 {
-    for (i, b) in text.iter().enumerate() {
-        if !is_in_line(*b) {
-            return i;
-        }
-    }
-    text.len()
-}
-
-// How many spaces come first.
-fn space_length(line: &[u8]) -> usize
-    ensures { result ≡ front is_space line.now }
-{
-    for (i, b) in line.iter().enumerate() {
-        if !is_space(*b) {
-            return i;
-        }
-    }
-    line.len()
-}
-
-// How many bytes come before the first space.
-fn word_length(line: &[u8]) -> usize
-    ensures { result ≡ front in_word line.now }
-{
-    for (i, b) in line.iter().enumerate() {
-        if is_space(*b) {
-            return i;
-        }
-    }
-    line.len()
+    let length = text.iter().take_while(|b| belongs(**b)).count();
+    text.split_at(length)
 }
 
 // The first line of the text, without its newline, and what follows it.
@@ -62,10 +37,42 @@ pub fn next_line(text: &[u8]) -> (&[u8], &[u8])
     ensures line { result.0.now ≡ line_of text.now }
     ensures after { result.1.now ≡ after_line text.now }
 {
-    let (line, rest) = text.split_at(line_length(text));
+    let (line, rest) = split_front(text, is_in_line);
     match rest {
         [_, after @ ..] => (line, after),
         [] => (line, rest),
+    }
+}
+
+// The lines of a text, from the first to the last. An empty text has none.
+#[derive(Debug, Clone, Copy)]
+pub struct Lines<'a> {
+    rest: &'a [u8],
+}
+
+impl<'a> Lines<'a> {
+    // The lines of this text.
+    pub fn of(text: &'a [u8]) -> Lines<'a>
+        ensures { result.rest.now ≡ text.now }
+    {
+        Lines { rest: text }
+    }
+}
+
+impl<'a> Iterator for Lines<'a> {
+    type Item = &'a [u8];
+
+    ghost next_gives = { λ s r t. TakesLine s.rest.now (option_copied r) t.rest.now };
+
+    ghost remaining = { λ s. at_most (length s.rest.now) };
+
+    fn next(&mut self) -> Option<&'a [u8]> {
+        if self.rest.is_empty() {
+            return None;
+        }
+        let (line, after) = next_line(self.rest);
+        self.rest = after;
+        Some(line)
     }
 }
 
@@ -74,8 +81,8 @@ pub fn next_word(line: &[u8]) -> (&[u8], &[u8])
     ensures word { result.0.now ≡ word_of line.now }
     ensures after { result.1.now ≡ after_word line.now }
 {
-    let (_, rest) = line.split_at(space_length(line));
-    rest.split_at(word_length(rest))
+    let (_, rest) = split_front(line, is_space);
+    split_front(rest, |b| !is_space(b))
 }
 
 // The number with one more digit behind it, or the greatest of its type where that is larger.
@@ -92,9 +99,10 @@ pub fn number(word: &[u8]) -> Option<u64>
     if word.is_empty() {
         return None;
     }
+    // `str::parse` takes a sign and refuses a number that is too large, so the digits are read here.
     let mut n: u64 = 0;
     for b in word {
-        if *b < b'0' || *b > b'9' {
+        if !b.is_ascii_digit() {
             return None;
         }
         n = with_digit(n, *b - b'0');

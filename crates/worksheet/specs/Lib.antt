@@ -1,3 +1,4 @@
+pub mod Failures
 pub mod Lines
 pub mod Volumes
 pub mod Workings

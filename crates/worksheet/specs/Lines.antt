@@ -8,18 +8,18 @@
 --   KindRead      the kind that a word names
 --   Sized         a line of two whole numbers and no more
 --   SizesRead     the two numbers of such a line
---   SizesBehind   those behind a kind, none where no kind stands
---   HeadingRead   what a line is read as where it may be a heading: the kind that it begins with, and the sizes behind it
---   reason        why a line is no packet, in words
+--   HeadingRead   what a line is read as where it may be a heading: the kind that it begins with, and the sizes behind it; none where it begins with no kind
+--   reason        why a line is no packet, or has no sizes behind its kind, in words
 use Rattle.std.specs.Prelude.{◌≡◌, ℕ, ◌-◌, ◌^◌, ◌≤◌, min, List, [], length, Some, None, Ok, Err, codes, Option, Result, ◌≢◌}
 use Rattle.std.specs.Str.Parse.{digits_value, IsNumeral}
 use Rattle.text.specs.Reading.{word_of, after_word}
 use Rattle.worksheet.specs.declared.line.Kind.{Kind}
 use Rattle.worksheet.specs.declared.line.Kind.TheVariants.{SemiOrdered, SharedDeduction}
+use Rattle.worksheet.specs.declared.line.Sizes.{Sizes}
 use Rattle.worksheet.specs.declared.line.Heading.{Heading}
 use Rattle.worksheet.specs.declared.line.Packet.{Packet}
 use Rattle.worksheet.specs.declared.line.Unread.{Unread}
-use Rattle.worksheet.specs.declared.line.Unread.TheVariants.{Name, Weight, More}
+use Rattle.worksheet.specs.declared.line.Unread.TheVariants.{Name, Weight, More, Heading as Headed}
 
 abbrev pub first : List ℕ → List ℕ
 first line = word_of line
@@ -42,6 +42,7 @@ PacketRead line (Ok p) =
     (p ≡ record { code = record { high = 0; low = digits_value 10 (first line) }; weight = small (digits_value 10 (second line)) })
 PacketRead line (Err Name) = IsName (first line) → ⊥
 PacketRead line (Err Weight) = IsName (first line) × (IsNumeral 10 (second line) → ⊥)
+PacketRead line (Err Headed) = ⊥
 PacketRead line (Err More) = IsName (first line) × IsNumeral 10 (second line) × (third line ≢ [])
 
 abbrev pub KindRead : List ℕ → Option Kind → Type 0
@@ -52,18 +53,16 @@ KindRead word None = (word ≢ codes "semi-ordered") × (word ≢ codes "shared-
 abbrev pub Sized : List ℕ → Type 0
 Sized line = IsNumeral 10 (first line) × IsNumeral 10 (second line) × (third line ≡ [])
 
-abbrev pub SizesRead : List ℕ → Option (ℕ × ℕ) → Type 0
-SizesRead line (Some (n, s)) = Sized line × (n ≡ small (digits_value 10 (first line))) × (s ≡ small (digits_value 10 (second line)))
+abbrev pub SizesRead : List ℕ → Option Sizes → Type 0
+SizesRead line (Some s) = Sized line × (s.places ≡ small (digits_value 10 (first line))) × (s.step ≡ small (digits_value 10 (second line)))
 SizesRead line None = Sized line → ⊥
 
-abbrev pub SizesBehind : Option Kind → List ℕ → Option (ℕ × ℕ) → Type 0
-SizesBehind (Some k) line sizes = SizesRead line sizes
-SizesBehind None line sizes = sizes ≡ None
-
-abbrev pub HeadingRead : List ℕ → Heading → Type 0
-HeadingRead line h = KindRead (first line) h.kind × SizesBehind h.kind (after_word line) h.sizes
+abbrev pub HeadingRead : List ℕ → Option Heading → Type 0
+HeadingRead line (Some h) = KindRead (first line) (Some h.kind) × SizesRead (after_word line) h.sizes
+HeadingRead line None = KindRead (first line) None
 
 abbrev pub reason : Unread → List ℕ
+reason Headed = codes "a heading is a kind of counter, its places and its step"
 reason Name = codes "a flow name is one to ten digits"
 reason Weight = codes "a weight is a whole number behind the flow name"
 reason More = codes "a line is a flow name and a weight, and no more"

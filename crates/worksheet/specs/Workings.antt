@@ -3,14 +3,14 @@
 --   way_of          semi-ordered: it is held, it enters a line with room, or it evicts the first entry
 --   shared_way_of   shared-deduction: it is held, it takes an empty place, or all places share
 --   lost            the code that had the place before and has it no more
-use Rattle.std.specs.Prelude.{ℕ, cond, List, [], ◌∷◌, length, Some, None, Option, nat_lt}
+--   way_text        the rule that applies to a semi-ordered counter, in words
+--   shared_way_text the rule that applies to a shared-deduction counter, in words
+use Rattle.std.specs.Prelude.{ℕ, cond, List, [], ◌∷◌, length, Some, None, Option, nat_lt, codes}
 use Rattle.flow.specs.Codes.{same}
 use Rattle.flow.specs.declared.code.Code.{Code}
 use Rattle.semi.specs.Line.{holds}
 use Rattle.semi.specs.declared.entry.Entry.{Entry}
-use Rattle.shared.specs.Places.{holds as has_place, any_empty}
-use Rattle.shared.specs.declared.place.Place.{Place}
-use Rattle.shared.specs.declared.place.Place.TheVariants.{Empty, Held as Occupied}
+use Rattle.shared.specs.Places.{Place, holds as has_place, any_empty}
 use Rattle.worksheet.specs.declared.semi_ordered.Way.{Way}
 use Rattle.worksheet.specs.declared.semi_ordered.Way.TheVariants.{Held, Enters, Evicts}
 use Rattle.worksheet.specs.declared.shared_deduction.Way.{Way as SharedWay}
@@ -27,6 +27,16 @@ abbrev pub shared_way_of : List Place → Code → SharedWay
 shared_way_of places k = cond (has_place k places) HasPlace (cond (any_empty places) Takes Shares)
 
 abbrev pub lost : Place → Place → Option Code
-lost Empty new = None
-lost (Occupied k c) Empty = Some k
-lost (Occupied k c) (Occupied j d) = cond (same k j) None (Some k)
+lost None new = None
+lost (Some x) None = Some x.code
+lost (Some x) (Some y) = cond (same x.code y.code) None (Some x.code)
+
+abbrev pub way_text : Way → List ℕ
+way_text Held = codes "held: it counts from its entry"
+way_text Enters = codes "absent, and the line has room: it counts from 0"
+way_text (Evicts e) = codes "absent, and the line is full: it counts from the first group and step - 1"
+
+abbrev pub shared_way_text : SharedWay → List ℕ
+shared_way_text HasPlace = codes "held: its count rises"
+shared_way_text Takes = codes "absent, and a place is empty: it takes the lowest"
+shared_way_text Shares = codes "absent, and no place is empty: all counts fall"

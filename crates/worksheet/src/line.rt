@@ -1,5 +1,5 @@
 // The lines of an input: a heading, then a packet on each line.
-ghost use Rattle.std.specs.Prelude.{◌≡◌, [], MatchBool, MatchOption, ◌≢◌};
+ghost use Rattle.std.specs.Prelude.{◌≡◌, [], Some, MatchBool, MatchOption, ◌≢◌};
 ghost use Rattle.std.specs.Str.Parse.{digits_value, IsNumeral};
 ghost use Rattle.text.specs.Reading.{word_of};
 ghost use Rattle.worksheet.specs.Lines.{IsName, small, PacketRead, KindRead, SizesRead, HeadingRead, reason};
@@ -7,94 +7,113 @@ ghost use Rattle.worksheet.specs.Lines.{IsName, small, PacketRead, KindRead, Siz
 use flow::account::Account;
 use flow::code::Code;
 use flow::key::FlowKey;
+use std::error::Error;
+use std::fmt;
 use text::{next_word, number};
 
 // The most digits of a flow name.
-const NAME_DIGITS: usize = 10;
+const NAME_DIGITS: usize = Account::BYTES;
 
 // The kinds of counter that a heading names.
-#[derive(Clone, Copy)]
+#[derive(Debug, Clone, Copy, PartialEq, Eq)]
 pub enum Kind {
     SemiOrdered,
     SharedDeduction,
 }
 
 impl Kind {
-    // The kind of this name.
+    // The kind of this name. A word that names none is no error: its line is a packet's.
     fn named(word: &[u8]) -> Option<Kind>
         ensures { KindRead word.now result }
     {
         if word == b"semi-ordered".as_slice() {
-            return Some(Kind::SemiOrdered);
+            Some(Kind::SemiOrdered)
+        } else if word == b"shared-deduction".as_slice() {
+            Some(Kind::SharedDeduction)
+        } else {
+            None
         }
-        if word == b"shared-deduction".as_slice() {
-            return Some(Kind::SharedDeduction);
-        }
-        None
     }
 }
 
-// What a heading asks for, as far as it can be read.
-#[derive(Clone, Copy)]
+// The places and the step that a heading asks for. They may be out of range: the counter refuses those.
+#[derive(Debug, Clone, Copy, PartialEq, Eq)]
+pub struct Sizes {
+    pub places: u32,
+    pub step: u32,
+}
+
+impl Sizes {
+    // The sizes of a line that has both and no more.
+    fn read(line: &[u8]) -> Option<Sizes>
+        ensures { SizesRead line.now result }
+    {
+        let (places, rest) = next_word(line);
+        let (step, rest) = next_word(rest);
+        if !is_blank(rest) {
+            return None;
+        }
+        Some(Sizes {
+            places: small_number(places)?,
+            step: small_number(step)?,
+        })
+    }
+}
+
+// What a heading asks for: a kind, and the sizes where they can be read.
+#[derive(Debug, Clone, Copy, PartialEq, Eq)]
 pub struct Heading {
-    pub kind: Option<Kind>,
-    pub sizes: Option<(u32, u32)>,
+    pub kind: Kind,
+    pub sizes: Option<Sizes>,
 }
 
 impl Heading {
-    // The heading of a line: a kind, the places and the step. A line that begins with no kind has none of them.
-    pub(crate) fn read(line: &[u8]) -> Heading
+    // What a first line asks for that begins with no kind.
+    pub(crate) const UNREAD: Heading = Heading {
+        kind: Kind::SemiOrdered,
+        sizes: None,
+    };
+
+    // The heading of a line, which begins with a kind.
+    pub(crate) fn read(line: &[u8]) -> Option<Heading>
         ensures { HeadingRead line.now result }
     {
         let (word, rest) = next_word(line);
-        match Kind::named(word) {
-            Some(kind) => Heading {
-                kind: Some(kind),
-                sizes: read_sizes(rest),
-            },
-            None => Heading {
-                kind: None,
-                sizes: None,
-            },
-        }
+        let kind = Kind::named(word)?;
+        Some(Heading {
+            kind,
+            sizes: Sizes::read(rest),
+        })
     }
 }
 
-// The places and the step, where the line has both and no more.
-fn read_sizes(line: &[u8]) -> Option<(u32, u32)>
-    ensures { SizesRead line.now result }
-{
-    let (places, rest) = next_word(line);
-    let (step, rest) = next_word(rest);
-    if !is_blank(rest) {
-        return None;
-    }
-    Some((small_number(places)?, small_number(step)?))
-}
-
-// Why a line is no packet.
-#[derive(Clone, Copy)]
+// Why a line is no packet, or has no sizes behind its kind.
+#[derive(Debug, Clone, Copy, PartialEq, Eq)]
 pub enum Unread {
+    Heading,
     Name,
     Weight,
     More,
 }
 
-impl Unread {
-    // The reason in words.
-    pub(crate) fn words(self) -> &'static str
-        ensures { result.now ≡ reason self }
-    {
-        match self {
+// The reason in words.
+impl fmt::Display for Unread {
+    ghost output = { λ e. Some (reason e) };
+
+    fn fmt<W: fmt::Write>(&self, f: &mut fmt::Formatter<W>) -> fmt::Result {
+        f.write_str(match self {
+            Unread::Heading => "a heading is a kind of counter, its places and its step",
             Unread::Name => "a flow name is one to ten digits",
             Unread::Weight => "a weight is a whole number behind the flow name",
             Unread::More => "a line is a flow name and a weight, and no more",
-        }
+        })
     }
 }
 
+impl Error for Unread {}
+
 // A packet as a line gives it.
-#[derive(Clone, Copy)]
+#[derive(Debug, Clone, Copy, PartialEq, Eq)]
 pub struct Packet {
     pub code: Code,
     pub weight: u32,
@@ -131,7 +150,7 @@ fn small_number(word: &[u8]) -> Option<u32>
     ensures { MatchOption result (IsNumeral 10 word.now → ⊥) (λ n. IsNumeral 10 word.now × (n ≡ small (digits_value 10 word.now))) }
 {
     let n = number(word)?;
-    Some(n.min(u64::from(u32::MAX)) as u32)
+    Some(u32::try_from(n).unwrap_or(u32::MAX))
 }
 
 // The account that one to ten digits name.
@@ -142,8 +161,5 @@ fn named_account(word: &[u8]) -> Option<Account>
         return None;
     }
     let low = number(word)?;
-    match Account::of_code(Code { high: 0, low }) {
-        Ok(account) => Some(account),
-        Err(_) => None,
-    }
+    Account::of_code(Code { high: 0, low }).ok()
 }

@@ -10,26 +10,24 @@ mod totals;
 mod worked;
 
 use crate::line::Heading;
-use crate::sheet::Sheet;
+use crate::sheet::AnySheet;
 use std::io;
 use std::io::Read;
-use text::next_line;
+use text::{Lines, next_line};
 
 // Works each line. A heading ends the sheet before it and begins its own.
+// The first line is always a heading, even where it is empty or names no kind.
 fn work(rt: &HostRuntime, input: &[u8]) -> io::Result<()> {
-    let (first, mut rest) = next_line(input);
-    let mut number: u64 = 1;
-    let mut sheet = Sheet::begin(rt, number, Heading::read(first))?;
-    while !rest.is_empty() {
-        let (line, after) = next_line(rest);
-        rest = after;
-        number = number.saturating_add(1);
-        let heading = Heading::read(line);
-        if heading.kind.is_some() {
-            sheet.end(rt)?;
-            sheet = Sheet::begin(rt, number, heading)?;
-        } else {
-            sheet.work_line(rt, number, line)?;
+    let (first, rest) = next_line(input);
+    let heading = Heading::read(first).unwrap_or(Heading::UNREAD);
+    let mut sheet = AnySheet::begin(rt, 1, heading)?;
+    for (number, line) in (2u64..).zip(Lines::of(rest)) {
+        match Heading::read(line) {
+            Some(heading) => {
+                sheet.end(rt)?;
+                sheet = AnySheet::begin(rt, number, heading)?;
+            }
+            None => sheet.work_line(rt, number, line)?,
         }
     }
     sheet.end(rt)

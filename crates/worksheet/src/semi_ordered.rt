@@ -1,22 +1,37 @@
 // The working of an add to a semi-ordered counter.
-ghost use Rattle.std.specs.Prelude.{◌≡◌};
+ghost use Rattle.std.specs.Prelude.{◌≡◌, Some};
 ghost use Rattle.semi.specs.Semi.{semi_meaning};
-ghost use Rattle.worksheet.specs.Workings.{way_of};
+ghost use Rattle.worksheet.specs.Workings.{way_of, way_text};
 
 use crate::division::Division;
+use crate::line::Packet;
 use crate::worked::Worked;
 use flow::code::Code;
 use flow::counter::FrameCounter;
 use semi::{Entry, SemiOrdered};
 use std::alloc::AllocError;
-use std::io;
+use std::{fmt, io};
 
 // How a code comes to its entry.
-#[derive(Clone, Copy)]
+#[derive(Debug, Clone, Copy, PartialEq, Eq)]
 pub enum Way {
     Held,
     Enters,
     Evicts(Entry),
+}
+
+// The rule that applies, in words.
+impl fmt::Display for Way {
+    ghost output = { λ w. Some (way_text w) };
+
+    fn fmt<W: fmt::Write>(&self, f: &mut fmt::Formatter<W>) -> fmt::Result {
+        f.write_str(match self {
+            Way::Held => "held: it counts from its entry",
+            Way::Enters => "absent, and the line has room: it counts from 0",
+            Way::Evicts(_) =>
+                "absent, and the line is full: it counts from the first group and step - 1",
+        })
+    }
 }
 
 // How the code comes to its entry of the counter.
@@ -37,21 +52,10 @@ fn way_of(counter: &SemiOrdered, code: Code) -> Way
 }
 
 // What the working of an add needs of the counter before it.
-#[derive(Clone, Copy)]
+#[derive(Debug, Clone, Copy, PartialEq, Eq)]
 pub struct Before {
     way: Way,
     start: Entry,
-}
-
-// Prints which rule applies.
-fn show_way(rt: &HostRuntime, way: Way) -> io::Result<()> {
-    match way {
-        Way::Held => println!(rt; "  held: it counts from its entry"),
-        Way::Enters => println!(rt; "  absent, and the line has room: it counts from 0"),
-        Way::Evicts(_) => println!(rt;
-            "  absent, and the line is full: it counts from the first group and step - 1"
-        ),
-    }
 }
 
 // Prints who was evicted.
@@ -68,11 +72,9 @@ fn show_evicted(rt: &HostRuntime, way: Way) -> io::Result<()> {
 }
 
 impl Worked for SemiOrdered {
-    type Before = Before;
+    const TITLE: &'static str = "semi-ordered";
 
-    fn title() -> &'static str {
-        "semi-ordered"
-    }
+    type Before = Before;
 
     fn before(&self, _rt: &HostRuntime, code: Code) -> Result<Before, AllocError> {
         Ok(Before {
@@ -81,14 +83,10 @@ impl Worked for SemiOrdered {
         })
     }
 
-    fn show_add(
-        &self,
-        rt: &HostRuntime,
-        before: &Before,
-        code: Code,
-        weight: u32,
-    ) -> io::Result<()> {
-        show_way(rt, before.way)?;
+    fn show_add(&self, rt: &HostRuntime, before: &Before, packet: Packet) -> io::Result<()> {
+        let Packet { code, weight } = packet;
+        let way = before.way;
+        println!(rt; "  {way}")?;
         let Entry {
             group,
             remainder,

@@ -1,21 +1,35 @@
 // The working of an add to a shared-deduction counter.
-ghost use Rattle.std.specs.Prelude.{◌≡◌};
+ghost use Rattle.std.specs.Prelude.{◌≡◌, Some};
 ghost use Rattle.shared.specs.Shared.{shared_meaning};
-ghost use Rattle.worksheet.specs.Workings.{shared_way_of, lost};
+ghost use Rattle.worksheet.specs.Workings.{shared_way_of, shared_way_text, lost};
 
+use crate::line::Packet;
 use crate::worked::Worked;
 use flow::code::Code;
 use flow::counter::FrameCounter;
-use shared::{Place, SharedDeduction};
+use shared::{Held, Place, SharedDeduction};
 use std::alloc::AllocError;
-use std::io;
+use std::{fmt, io};
 
 // How a code comes to its count.
-#[derive(Clone, Copy)]
+#[derive(Debug, Clone, Copy, PartialEq, Eq)]
 pub enum Way {
     Held,
     Takes,
     Shares,
+}
+
+// The rule that applies, in words.
+impl fmt::Display for Way {
+    ghost output = { λ w. Some (shared_way_text w) };
+
+    fn fmt<W: fmt::Write>(&self, f: &mut fmt::Formatter<W>) -> fmt::Result {
+        f.write_str(match self {
+            Way::Held => "held: its count rises",
+            Way::Takes => "absent, and a place is empty: it takes the lowest",
+            Way::Shares => "absent, and no place is empty: all counts fall",
+        })
+    }
 }
 
 // How the code comes to its count in the counter.
@@ -32,7 +46,7 @@ fn way_of(counter: &SharedDeduction, code: Code) -> Way
 }
 
 // What the working of an add needs of the counter before it.
-#[derive(Drop)]
+#[derive(Debug, Drop)]
 pub struct Before {
     way: Way,
     count: u64,
@@ -46,18 +60,8 @@ fn lost(old: &Place, new: &Place) -> Option<Code>
     ensures { result ≡ lost old.now new.now }
 {
     match (old, new) {
-        (Place::Empty, _) => None,
-        (Place::Held { code, .. }, Place::Held { code: held, .. }) if code.same(*held) => None,
-        (Place::Held { code, .. }, _) => Some(*code),
-    }
-}
-
-// Prints which rule applies.
-fn show_way(rt: &HostRuntime, way: Way) -> io::Result<()> {
-    match way {
-        Way::Held => println!(rt; "  held: its count rises"),
-        Way::Takes => println!(rt; "  absent, and a place is empty: it takes the lowest"),
-        Way::Shares => println!(rt; "  absent, and no place is empty: all counts fall"),
+        (Some(held), Some(next)) if held.code == next.code => None,
+        (place, _) => place.map(|held| held.code),
     }
 }
 
@@ -65,10 +69,10 @@ fn show_way(rt: &HostRuntime, way: Way) -> io::Result<()> {
 fn show_reckoning(
     rt: &HostRuntime,
     before: &Before,
-    weight: u32,
-    count: u64,
-    deduction: u64,
+    counter: &SharedDeduction,
+    packet: Packet,
 ) -> io::Result<()> {
+    let Packet { code, weight } = packet;
     let Before {
         way,
         count: old,
@@ -78,8 +82,10 @@ fn show_reckoning(
     } = before;
     println!(rt; "  before:   count {old}, deduction {from}")?;
     if let Way::Held | Way::Takes = way {
+        let count = counter.count(code);
         return println!(rt; "  count:    {old} + {weight} = {count}");
     }
+    let deduction = counter.deduction();
     let fall = u64::from(weight).min(*least);
     let left = u64::from(weight) - fall;
     println!(rt;
@@ -92,27 +98,25 @@ fn show_reckoning(
 
 // Prints the flows that had a place before and have it no more.
 fn show_evicted(rt: &HostRuntime, before: &[Place], after: &[Place]) -> io::Result<()> {
-    let mut some = false;
-    for (old, new) in before.iter().zip(after.iter()) {
-        if let Some(code) = lost(old, new) {
-            some = true;
-            let flow = code.low;
-            println!(rt; "  evicted:  flow {flow}")?;
-        }
+    let mut evicted = before
+        .iter()
+        .zip(after)
+        .filter_map(|(old, new)| lost(old, new))
+        .peekable();
+    if evicted.peek().is_none() {
+        return println!(rt; "  evicted:  none");
     }
-    if some {
-        Ok(())
-    } else {
-        println!(rt; "  evicted:  none")
+    for code in evicted {
+        let flow = code.low;
+        println!(rt; "  evicted:  flow {flow}")?;
     }
+    Ok(())
 }
 
 impl Worked for SharedDeduction {
-    type Before = Before;
+    const TITLE: &'static str = "shared-deduction";
 
-    fn title() -> &'static str {
-        "shared-deduction"
-    }
+    type Before = Before;
 
     fn before(&self, rt: &HostRuntime, code: Code) -> Result<Before, AllocError> {
         let places = self.held().to_vec(rt.alloc())?;
@@ -125,18 +129,13 @@ impl Worked for SharedDeduction {
         })
     }
 
-    fn show_add(
-        &self,
-        rt: &HostRuntime,
-        before: &Before,
-        code: Code,
-        weight: u32,
-    ) -> io::Result<()> {
+    fn show_add(&self, rt: &HostRuntime, before: &Before, packet: Packet) -> io::Result<()> {
+        let way = before.way;
+        println!(rt; "  {way}")?;
+        show_reckoning(rt, before, self, packet)?;
         let deduction = self.deduction();
-        let count = self.count(code);
-        show_way(rt, before.way)?;
-        show_reckoning(rt, before, weight, count, deduction)?;
-        if count > 0 {
+        if self.holds(packet.code) {
+            let count = self.count(packet.code);
             println!(rt; "  after:    count {count}, deduction {deduction}")?;
         } else {
             println!(rt; "  after:    no place, deduction {deduction}")?;
@@ -148,8 +147,8 @@ impl Worked for SharedDeduction {
         println!(rt; "  places:         flow      count       estimate")?;
         for place in self.held() {
             match place {
-                Place::Empty => println!(rt; "                 empty")?,
-                Place::Held { code, count } => {
+                None => println!(rt; "                 empty")?,
+                Some(Held { code, count }) => {
                     let flow = code.low;
                     let estimate = self.estimate(*code);
                     println!(rt; "            {flow:>10} {count:>10} {estimate:>14}")?;

@@ -1,153 +1,181 @@
 // A sheet: its title, a working for each packet, and the table at its end.
-use crate::line::{Heading, Kind, Packet, is_blank};
+ghost use Rattle.std.specs.Prelude.{◌≡◌, Some};
+ghost use Rattle.worksheet.specs.declared.sheet.Failure.TheVariants.{Unread as NotRead, Refused as IsRefused};
+ghost use Rattle.worksheet.specs.Failures.{failure_text};
+
+use crate::line::{Heading, Kind, Packet, Sizes, Unread, is_blank};
 use crate::totals::Totals;
 use crate::worked::Worked;
 use flow::counter::FrameCounter;
 use flow::refusal::Refusal;
 use semi::SemiOrdered;
 use shared::SharedDeduction;
-use std::io;
+use std::error::Error;
+use std::{fmt, io};
 
-// A sheet of a kind, with a counter of each kind, of which it uses its own, and the true volumes of its flows.
-#[derive(Drop)]
-pub struct Sheet {
-    kind: Kind,
-    semi: SemiOrdered,
-    shared: SharedDeduction,
-    totals: Totals,
+// Why a line is not worked.
+#[derive(Debug, Clone, Copy, PartialEq, Eq)]
+pub enum Failure {
+    Unread(Unread),
+    Refused(Refusal),
 }
 
-impl Sheet {
-    // Begins a sheet: opens its counter as the heading asks, and prints the title.
-    // A heading with no kind has a semi-ordered counter.
-    pub(crate) fn begin(rt: &HostRuntime, line: u64, heading: Heading) -> io::Result<Sheet> {
-        let kind = heading.kind.unwrap_or(Kind::SemiOrdered);
-        let mut semi = SemiOrdered::new();
-        let mut shared = SharedDeduction::new();
-        match kind {
-            Kind::SemiOrdered => open(rt, &mut semi, line, heading.sizes)?,
-            Kind::SharedDeduction => open(rt, &mut shared, line, heading.sizes)?,
+impl From<Unread> for Failure {
+    ghost from_gives = { λ why f. f ≡ NotRead why };
+
+    fn from(unread: Unread) -> Failure {
+        Failure::Unread(unread)
+    }
+}
+
+impl From<Refusal> for Failure {
+    ghost from_gives = { λ refusal f. f ≡ IsRefused refusal };
+
+    fn from(refusal: Refusal) -> Failure {
+        Failure::Refused(refusal)
+    }
+}
+
+impl fmt::Display for Failure {
+    ghost output = { λ f. Some (failure_text f) };
+
+    fn fmt<W: fmt::Write>(&self, f: &mut fmt::Formatter<W>) -> fmt::Result {
+        match self {
+            Failure::Unread(unread) => write!(f, "Not read: {unread}."),
+            Failure::Refused(refusal) => {
+                let number = refusal.number();
+                write!(f, "Refused ({number}): {refusal}.")
+            }
         }
-        Ok(Sheet {
-            kind,
-            semi,
-            shared,
-            totals: Totals::new(rt.alloc()),
+    }
+}
+
+impl Error for Failure {}
+
+// A sheet of any kind, which is known only when the program runs. It is an enum, since a function may not make a `dyn` value and hand it out.
+#[derive(Drop)]
+pub enum AnySheet {
+    SemiOrdered(Sheet<SemiOrdered>),
+    SharedDeduction(Sheet<SharedDeduction>),
+}
+
+impl AnySheet {
+    // Begins the sheet that the heading on the line of this number asks for.
+    pub(crate) fn begin(rt: &HostRuntime, number: u64, heading: Heading) -> io::Result<AnySheet> {
+        let Heading { kind, sizes } = heading;
+        Ok(match kind {
+            Kind::SemiOrdered => {
+                AnySheet::SemiOrdered(Sheet::begin(rt, number, SemiOrdered::new(), sizes)?)
+            }
+            Kind::SharedDeduction => {
+                AnySheet::SharedDeduction(Sheet::begin(rt, number, SharedDeduction::new(), sizes)?)
+            }
         })
     }
 
-    // Works a line behind the heading. A blank line is passed over.
+    // Works a line behind the heading.
     pub(crate) fn work_line(
         &mut self,
         rt: &HostRuntime,
         number: u64,
         line: &[u8],
     ) -> io::Result<()> {
+        match self {
+            AnySheet::SemiOrdered(sheet) => sheet.work_line(rt, number, line),
+            AnySheet::SharedDeduction(sheet) => sheet.work_line(rt, number, line),
+        }
+    }
+
+    // Ends the sheet.
+    pub(crate) fn end(&self, rt: &HostRuntime) -> io::Result<()> {
+        match self {
+            AnySheet::SemiOrdered(sheet) => sheet.end(rt),
+            AnySheet::SharedDeduction(sheet) => sheet.end(rt),
+        }
+    }
+}
+
+// A counter, and the true volumes of the flows that it has counted.
+#[derive(Drop)]
+pub struct Sheet<C> {
+    counter: C,
+    totals: Totals,
+}
+
+impl<C: Worked> Sheet<C> {
+    // Begins a sheet: opens its counter as the heading asks, and prints the title.
+    fn begin(
+        rt: &HostRuntime,
+        number: u64,
+        mut counter: C,
+        sizes: Option<Sizes>,
+    ) -> io::Result<Sheet<C>> {
+        if let Err(failure) = open(&mut counter, sizes) {
+            show_failure(rt, number, failure)?;
+        }
+        let title = C::TITLE;
+        let places = counter.places();
+        let step = counter.step();
+        println!(rt; "Worked sheet: {title} counter, places {places}, step {step}\n")?;
+        Ok(Sheet {
+            counter,
+            totals: Totals::new(rt.alloc()),
+        })
+    }
+
+    // Works a line behind the heading. A blank line is passed over.
+    fn work_line(&mut self, rt: &HostRuntime, number: u64, line: &[u8]) -> io::Result<()> {
         if is_blank(line) {
             return Ok(());
         }
         match Packet::read(line) {
-            Ok(packet) => match self.kind {
-                Kind::SemiOrdered => work_packet(
-                    rt,
-                    &mut self.semi,
-                    &mut self.totals,
-                    number,
-                    packet,
-                ),
-                Kind::SharedDeduction => work_packet(
-                    rt,
-                    &mut self.shared,
-                    &mut self.totals,
-                    number,
-                    packet,
-                ),
-            },
-            Err(unread) => show_unread(rt, number, unread.words()),
+            Ok(packet) => self.work_packet(rt, number, packet),
+            Err(unread) => show_failure(rt, number, Failure::from(unread)),
         }
     }
 
-    // Ends the sheet with the table of its flows.
-    pub(crate) fn end(&self, rt: &HostRuntime) -> io::Result<()> {
-        match self.kind {
-            Kind::SemiOrdered => show_totals(rt, &self.semi, &self.totals),
-            Kind::SharedDeduction => show_totals(rt, &self.shared, &self.totals),
-        }
-    }
-}
-
-// Prints why a line was refused.
-fn show_refusal(rt: &HostRuntime, line: u64, refusal: Refusal) -> io::Result<()> {
-    let number = refusal.number();
-    let words = refusal.words();
-    println!(rt; "Line {line}. Refused ({number}): {words}.\n")
-}
-
-// Prints why a line could not be read.
-fn show_unread(rt: &HostRuntime, line: u64, why: &str) -> io::Result<()> {
-    println!(rt; "Line {line}. Not read: {why}.\n")
-}
-
-// Opens the counter with these places and step, and prints the title.
-fn open<C: Worked>(
-    rt: &HostRuntime,
-    counter: &mut C,
-    line: u64,
-    sizes: Option<(u32, u32)>,
-) -> io::Result<()> {
-    match sizes {
-        Some((places, step)) => {
-            if let Err(refusal) = counter.open(places as usize, step) {
-                show_refusal(rt, line, refusal)?;
+    // Works one packet: adds it, and prints the working or the refusal.
+    fn work_packet(&mut self, rt: &HostRuntime, number: u64, packet: Packet) -> io::Result<()> {
+        let Packet { code, weight } = packet;
+        let before = self.counter.before(rt, code)?;
+        match self.counter.add(code, weight) {
+            Ok(passes) => {
+                let flow = code.low;
+                println!(rt; "Line {number}. Flow {flow}, weight {weight}.")?;
+                self.counter.show_add(rt, &before, packet)?;
+                println!(rt; "  passes:   {passes}")?;
+                self.counter.show_all(rt)?;
+                println!(rt)?;
+                self.totals.add(packet)?;
+                Ok(())
             }
+            Err(refusal) => show_failure(rt, number, Failure::from(refusal)),
         }
-        None => show_unread(
-            rt,
-            line,
-            "a heading is a kind of counter, its places and its step",
-        )?,
     }
-    let title = C::title();
-    let places = counter.places();
-    let step = counter.step();
-    println!(rt; "Worked sheet: {title} counter, places {places}, step {step}\n")
-}
 
-// Works one packet: adds it, and prints the working or the refusal.
-fn work_packet<C: Worked>(
-    rt: &HostRuntime,
-    counter: &mut C,
-    totals: &mut Totals,
-    line: u64,
-    packet: Packet,
-) -> io::Result<()> {
-    let Packet { code, weight } = packet;
-    let before = counter.before(rt, code)?;
-    match counter.add(code, weight) {
-        Ok(passes) => {
+    // Ends the sheet with the table of its flows: each flow's estimate beside its true volume.
+    fn end(&self, rt: &HostRuntime) -> io::Result<()> {
+        println!(rt; "      flow       estimate    true volume")?;
+        for (code, volume) in self.totals.flows() {
             let flow = code.low;
-            println!(rt; "Line {line}. Flow {flow}, weight {weight}.")?;
-            counter.show_add(rt, &before, code, weight)?;
-            println!(rt; "  passes:   {passes}")?;
-            counter.show_all(rt)?;
-            println!(rt)?;
-            totals.add(code, weight)?;
-            Ok(())
+            let estimate = self.counter.estimate(*code);
+            println!(rt; "{flow:>10} {estimate:>14} {volume:>14}")?;
         }
-        Err(refusal) => show_refusal(rt, line, refusal),
+        let packets = self.counter.packets();
+        let volume = self.counter.volume();
+        println!(rt; "packets {packets}, volume {volume}\n")
     }
 }
 
-// Prints each flow's estimate beside its true volume.
-fn show_totals<C: Worked>(rt: &HostRuntime, counter: &C, totals: &Totals) -> io::Result<()> {
-    println!(rt; "      flow       estimate    true volume")?;
-    for total in totals.flows() {
-        let flow = total.code.low;
-        let estimate = counter.estimate(total.code);
-        let volume = total.volume;
-        println!(rt; "{flow:>10} {estimate:>14} {volume:>14}")?;
-    }
-    let packets = counter.packets();
-    let volume = counter.volume();
-    println!(rt; "packets {packets}, volume {volume}\n")
+// Opens the counter with the sizes of its heading.
+fn open<C: FrameCounter>(counter: &mut C, sizes: Option<Sizes>) -> Result<(), Failure> {
+    let Sizes { places, step } = sizes.ok_or(Unread::Heading)?;
+    let places = usize::try_from(places).unwrap_or(usize::MAX);
+    counter.open(places, step)?;
+    Ok(())
+}
+
+// Prints why a line was not worked. The handle and the number are passed as they are: a struct of both would be made for each line and taken apart at each print.
+fn show_failure(rt: &HostRuntime, number: u64, failure: Failure) -> io::Result<()> {
+    println!(rt; "Line {number}. {failure}\n")
 }

@@ -1,72 +1,43 @@
 // The true volume of each flow.
-ghost use Rattle.std.specs.Prelude.{◌≡◌, ◌+◌, ◌<◌, true, false, [], length, take, MatchOption, OnOk, slice_index_or};
-ghost use Rattle.flow.specs.Codes.{same};
-ghost use Rattle.worksheet.specs.declared.totals.Total.{Total as Item};
-ghost use Rattle.worksheet.specs.Volumes.{has, tallied};
+ghost use Rattle.std.specs.Prelude.{◌≡◌, [], OnOk};
+ghost use Rattle.worksheet.specs.Volumes.{tallied};
 
+use crate::line::Packet;
 use flow::code::Code;
+use indexmap::IndexMap;
 use std::alloc::{AllocError, Global};
 
-// A flow and the sum of its weights.
-#[derive(Clone, Copy)]
-pub struct Total {
-    pub code: Code,
-    pub volume: u64,
-}
-
-// The flows in the order in which they came.
+// The sum of the weights of each flow, in the order in which the flows came.
 #[derive(Drop)]
 pub struct Totals {
-    flows: Vec<Total>,
-}
-
-// The place of the flow with this code.
-fn find(flows: &[Total], code: Code) -> Option<usize>
-    ensures { MatchOption result (has code flows.now ≡ false) (λ i. (i < length flows.now) × (has code (take i flows.now) ≡ false) × ((d : Item) → same (slice_index_or flows.now i d).code code ≡ true)) }
-{
-    for (i, flow) in flows.iter().enumerate() {
-        if flow.code.same(code) {
-            return Some(i);
-        }
-    }
-    None
+    flows: IndexMap<Code, u64>,
 }
 
 impl Totals {
     // No flows.
     pub(crate) fn new(heap: Global) -> Totals
-        ensures { result.flows.items ≡ [] }
+        ensures { result.flows.entries ≡ [] }
     {
         Totals {
-            flows: Vec::new(heap),
+            flows: IndexMap::new(heap),
         }
     }
 
     // The flows with their volumes.
-    pub(crate) fn flows(&self) -> &[Total]
-        ensures { result.now ≡ self.now.flows.items }
+    pub(crate) fn flows(&self) -> &IndexMap<Code, u64>
+        ensures { result.now ≡ self.now.flows }
     {
-        self.flows.as_slice()
+        &self.flows
     }
 
-    // Counts a packet of a flow.
-    pub(crate) fn add(&mut self, code: Code, weight: u32) -> Result<(), AllocError>
-        ensures { OnOk result (self.new.flows.items ≡ tallied code weight self.old.flows.items) }
+    // Counts a packet of a flow. An insert promises the entries in their order, where an entry's write promises the values alone.
+    pub(crate) fn add(&mut self, packet: Packet) -> Result<(), AllocError>
+        ensures { OnOk result (self.new.flows.entries ≡ tallied packet.code packet.weight self.old.flows.entries) }
     {
-        let weight = u64::from(weight);
-        match find(self.flows.as_slice(), code) {
-            Some(i) => {
-                let volume = self.flows[i].volume.saturating_add(weight);
-                self.flows[i] = Total { code, volume };
-                Ok(())
-            }
-            None => {
-                self.flows.push(Total {
-                    code,
-                    volume: weight,
-                })?;
-                Ok(())
-            }
-        }
+        let Packet { code, weight } = packet;
+        let volume = self.flows.get(&code).copied().unwrap_or(0);
+        self.flows
+            .insert(code, volume.saturating_add(u64::from(weight)))?;
+        Ok(())
     }
 }

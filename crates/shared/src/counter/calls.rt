@@ -1,7 +1,6 @@
 // The calls of a shared-deduction counter.
-ghost use Rattle.std.specs.Prelude.{◌≡◌, ℕ, ◌-◌, ◌^◌, ◌<◌, ◌≤◌, is_some, if◌then◌else◌, nat_lt};
+ghost use Rattle.std.specs.Prelude.{◌≡◌, ◌-◌, ◌^◌, ◌<◌, ◌≤◌};
 ghost use Rattle.std.proofs.Common.{rules};
-ghost use Rattle.std.specs.Option.{unwrap_or};
 ghost use Rattle.flow.specs.Answers.{told, Unchanged};
 ghost use Rattle.flow.specs.Meanings.{add_answer, add_leaves};
 ghost use Rattle.shared.specs.Places.{holds, count_of, any_empty, least};
@@ -13,28 +12,12 @@ use crate::place::Place;
 use crate::places;
 use flow::code::Code;
 use flow::counter::FrameCounter;
-use flow::limits::{MOST_PACKETS, MOST_PLACES, MOST_WEIGHT};
 use flow::refusal::Refusal;
+use flow::sizes::Sizes;
+use flow::tally::Tally;
 
 // The only step of such a counter.
 const STEP: u32 = 1;
-
-// By how much the deduction rises and the passes, where an add was shared by all the places and where it was not.
-fn cost(shared: Option<u64>, places: usize) -> (u64, usize)
-    ensures { (result.0 ≡ unwrap_or shared 0) × (result.1 ≡ (if is_some shared then places else 0)) }
-{
-    match shared {
-        Some(rise) => (rise, places),
-        None => (0, 0),
-    }
-}
-
-// Whether a count is that of a code which has a place.
-fn is_of_held(count: u64) -> bool
-    ensures { result ≡ nat_lt 0 count }
-{
-    count > 0
-}
 
 impl SharedDeduction {
     // A counter as opened with 1 and 1.
@@ -42,32 +25,18 @@ impl SharedDeduction {
         ensures opened { shared_meaning.model result ≡ shared_opened 1 }
         ensures sound { shared_meaning.sound (shared_meaning.model result) }
     {
-        SharedDeduction::smallest()
+        SharedDeduction::opened(Sizes { places: 1, step: 1 })
     }
 
-    // A counter with one place.
-    fn smallest() -> SharedDeduction
-        ensures { shared_meaning.model result ≡ shared_opened 1 }
+    // A counter of these sizes, with its places empty.
+    fn opened(sizes: Sizes) -> SharedDeduction
+        ensures { shared_meaning.model result ≡ shared_opened sizes.places }
     {
         SharedDeduction {
-            places: 1,
-            packets: 0,
-            volume: 0,
+            tally: Tally::new(),
             deduction: 0,
-            cells: [Place::Empty; MOST_PLACES],
+            places: places::empty(sizes.places),
         }
-    }
-
-    // Empties the counter, with so many places.
-    fn reset(&mut self, places: usize)
-        requires { (0 < places) × (places ≤ 256) }
-        ensures { shared_meaning.model self.new ≡ shared_opened places }
-    {
-        self.cells[0..places].fill(Place::Empty);
-        self.places = places;
-        self.packets = 0;
-        self.volume = 0;
-        self.deduction = 0;
     }
 
     // The deduction.
@@ -77,18 +46,18 @@ impl SharedDeduction {
         self.deduction
     }
 
-    // The code's count, 0 where no place has it.
+    // The code's count. It is promised to be 0 where no place has the code; `places::find` tells the two apart.
     pub fn count(&self, code: Code) -> u64
         ensures { result ≡ count_of code (shared_meaning.model self.now).held }
     {
-        places::count_of(self.held(), code)
+        places::find(self.held(), code).map_or(0, |held| held.count)
     }
 
     // Whether some place has the code.
     pub fn holds(&self, code: Code) -> bool
         ensures { result ≡ holds code (shared_meaning.model self.now).held }
     {
-        is_of_held(self.count(code))
+        places::find(self.held(), code).is_some()
     }
 
     // Whether some place is empty.
@@ -98,7 +67,7 @@ impl SharedDeduction {
         places::any_empty(self.held())
     }
 
-    // The least count, and 2^64 - 1 where every place is empty.
+    // The least count, and 2^64 - 1 where every place is empty: callers want the smaller of it and a weight.
     pub fn least_count(&self) -> u64
         ensures { result ≡ least (2 ^ 64 - 1) (shared_meaning.model self.now).held }
     {
@@ -109,7 +78,7 @@ impl SharedDeduction {
     pub fn held(&self) -> &[Place]
         ensures { result.now ≡ (shared_meaning.model self.now).held }
     {
-        &self.cells[0..self.places]
+        self.places.as_slice()
     }
 }
 
@@ -127,18 +96,16 @@ impl FrameCounter for SharedDeduction {
     ghost steps = { Prim.search rules };
 
     fn open(&mut self, places: usize, step: u32) -> Result<(), Refusal> {
-        if places < 1 || places > MOST_PLACES {
-            return Err(Refusal::PlacesOutOfRange);
-        }
-        if step != STEP {
-            return Err(Refusal::StepOutOfRange);
-        }
-        self.reset(places);
+        let sizes = Sizes::of(places, step, STEP)?;
+        *self = SharedDeduction::opened(sizes);
         Ok(())
     }
 
+    // In place: to make the counter anew writes all its cells.
     fn flush(&mut self) {
-        self.reset(self.places);
+        self.places.as_mut_slice().fill(None);
+        self.tally = Tally::new();
+        self.deduction = 0;
     }
 
     fn add(&mut self, code: Code, weight: u32) -> Result<usize, Refusal>
@@ -146,19 +113,12 @@ impl FrameCounter for SharedDeduction {
         ensures state { shared_meaning.model self.new ≡ add_leaves shared_meaning (shared_meaning.model self.old) code weight }
         ensures unchanged { Unchanged result self.old self.new }
     {
-        if weight < 1 || weight > MOST_WEIGHT {
-            return Err(Refusal::WeightOutOfRange);
-        }
-        if self.packets == MOST_PACKETS {
-            return Err(Refusal::CounterFull);
-        }
-        let weight = u64::from(weight);
-        let shared = places::add(&mut self.cells[0..self.places], code, weight);
-        let (rise, passes) = cost(shared, self.places);
-        self.packets += 1;
-        self.volume += weight;
-        self.deduction += rise;
-        Ok(passes)
+        let tally = self.tally.with(weight)?;
+        let shared = places::add(self.places.as_mut_slice(), code, u64::from(weight));
+        self.tally = tally;
+        self.deduction += shared.unwrap_or(0);
+        let places = self.places.len();
+        Ok(shared.map_or(0, |_| places))
     }
 
     fn estimate(&self, code: Code) -> u64 {
@@ -166,7 +126,7 @@ impl FrameCounter for SharedDeduction {
     }
 
     fn places(&self) -> usize {
-        self.places
+        self.places.len()
     }
 
     fn step(&self) -> u32 {
@@ -176,13 +136,13 @@ impl FrameCounter for SharedDeduction {
     fn packets(&self) -> u32
         ensures { result ≡ (shared_meaning.model self.now).packets }
     {
-        self.packets
+        self.tally.packets()
     }
 
     fn volume(&self) -> u64
         ensures { result ≡ (shared_meaning.model self.now).volume }
     {
-        self.volume
+        self.tally.volume()
     }
 
     fn greatest_step(&self) -> u32 {
