@@ -9,12 +9,9 @@ use Rattle.frame.specs.declared.plan.Plan.{Plan}
 use Rattle.frame.specs.Plans.{Fair, block_of, judged}
 use Rattle.frame.proofs.Dividing.{divides, block_some}
 
-apart : (n : ℕ) → ◌≡◌ {A = Answer (Unit {0})} (refused n) (answered tt) → ⊥
-apart n e = let z : ◌≡◌ {A = ℕ} 0 1 = cc in omega arith
-
 -- a check that an answered call passed
 past : (b : Bool) (n : ℕ) (rest : Answer (Unit {0})) → cond b (refused n) rest ≡ answered tt → (b ≡ false) × (rest ≡ answered tt)
-past true n rest e = absurd (apart n e)
+past true n rest e = cc
 past false n rest e = (refl, e)
 
 even : (k w : ℕ) → (eqb k 0 || not (eqb (w % k) 0)) ≡ false → (k ≡ 0 → ⊥) × (w % k ≡ 0)

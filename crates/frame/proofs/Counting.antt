@@ -1,5 +1,6 @@
 -- Marks at an offset or later, and rising offsets.
-use Rattle.std.proofs.Common.{◌≡◌, ℕ, zero, suc, ◌+◌, ◌≤◌, cond, ◌&&◌, leb, List, [], ◌∷◌, ◌++◌, take, refl, arith}
+use Rattle.std.proofs.Common.{◌≡◌, ℕ, suc, ◌+◌, ◌≤◌, cond, ◌&&◌, leb, List, [], ◌∷◌, ◌++◌, length, refl, arith}
+use Rattle.std.specs.List.{filter}
 use Rattle.std.proofs.lemmas.Bool.Decides.{nat_tests}
 use Rattle.flow.specs.declared.code.Code.{Code}
 use Rattle.flow.specs.Codes.{same}
@@ -38,8 +39,7 @@ from_append a k (m ∷ ms) ns = omega (arith, from_append a k ms ns)
 pub marks_more : (c : Code) (m : Mark) (ms : List Mark) → marks_of c (m ∷ ms) ≡ cond (same m.code c) 1 0 + marks_of c ms
 marks_more c m ms = grind (arith, nat_tests)
 
-pub marks_fewer : (k : Code) (ms : List Mark) (i j : ℕ) → i ≤ j → marks_of k (take i ms) ≤ marks_of k (take j ms)
-marks_fewer k ms zero j le = omega arith
-marks_fewer k [] (suc i) j le = omega arith
-marks_fewer k (m ∷ ms) (suc i) zero le = absurd (omega arith)
-marks_fewer k (m ∷ ms) (suc i) (suc j) le = omega (arith, marks_fewer k ms i j (omega arith))
+-- the marks of a code, picked by a test
+pub marks-filtered : (k : Code) (ms : List Mark) → marks_of k ms ≡ length (filter (λ m. same m.code k) ms)
+marks-filtered k [] = refl
+marks-filtered k (m ∷ ms) = let ih = marks-filtered k ms in let more = marks_more k m ms in grind (arith, nat_tests)

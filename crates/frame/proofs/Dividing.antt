@@ -1,5 +1,5 @@
 -- The blocks of a plan.
-use Rattle.std.proofs.Common.{◌≡◌, ℕ, ◌*◌, ◌/◌, ◌%◌, ◌^◌, ◌≤◌, mul-le-mul, mul-le-mul_left, mul-zero, mul-one, div-le_self, arith}
+use Rattle.std.proofs.Common.{◌≡◌, ℕ, ◌*◌, ◌/◌, ◌%◌, ◌^◌, ◌≤◌, mul-le-mul, mul-zero, div-le_self, arith}
 use native.Mathlib.Nat.{div-add-mod, lt_of_mul-lt-mul_left}
 
 module _ (wide k : ℕ) (open' : 1 ≤ wide) (even : wide % k ≡ 0) where
@@ -8,9 +8,6 @@ module _ (wide k : ℕ) (open' : 1 ≤ wide) (even : wide % k ≡ 0) where
 
   pub block_some : 1 ≤ wide / k
   block_some = lt_of_mul-lt-mul_left k (omega (arith, divides, mul-zero k))
-
-  pub blocks_few : k ≤ wide
-  blocks_few = omega (arith, divides, mul-le-mul_left k block_some, mul-one k)
 
 pub unit_small : (most wide k : ℕ) → most ≤ 1048576 → wide ≤ 16777216 → most * (wide / k) ≤ 2 ^ 44
 unit_small most wide k light narrow =

@@ -1,8 +1,10 @@
 -- The flows that have a mark: each once.
-use Rattle.std.proofs.Common.{◌≡◌, ℕ, zero, suc, ◌+◌, ◌*◌, ◌<◌, ◌≤◌, Bool, true, false, cond, ltb, List, [], ◌∷◌, ◌++◌, length, get_or, take, sym, refl, ap, ◌∙◌, ⊎_elim, append-nil, one-mul, zero-mul, arith, length-take-le, take_all, take-take}
-use Rattle.std.specs.List.{AllByRecursion}
-use Rattle.std.proofs.lemmas.List.{take_more}
-use Rattle.std.proofs.lemmas.Bool.{cases_Bool, lt-ltb}
+use Rattle.std.proofs.Common.{◌≡◌, ℕ, suc, ◌+◌, ◌*◌, ◌<◌, ◌≤◌, Bool, true, false, cond, not, ltb, List, [], ◌∷◌, ◌++◌, length, get_or, take, Option, sym, refl, ap, ◌∙◌, ⊎_elim, one-mul, zero-mul, arith}
+use Rattle.std.specs.Bool.{then_some}
+use Rattle.std.specs.Option.{option_to_list}
+use Rattle.std.specs.List.{AllByRecursion, list_any}
+use Rattle.std.proofs.lemmas.List.{take_more, get_or_default}
+use Rattle.std.proofs.lemmas.Bool.{cases_Bool}
 use Rattle.std.proofs.lemmas.Bool.Decides.{nat_tests}
 use Rattle.flow.specs.declared.code.Code.{Code}
 use Rattle.flow.specs.Codes.{same}
@@ -148,31 +150,39 @@ flows_sum (m ∷ ms) =
         (λ b. let zero : n ≡ 0 = grind (arith, nat_tests) in let none : t ≡ 0 = grind (arith, nat_tests) in ap (λ x. x * n) none ∙ zero-mul n ∙ sym zero)
         (cases_Bool (ltb 0 n))
 
--- the mark at a place of the array: the first n of it are in use
-module _ (ms : List Mark) (n p : ℕ) (d : Mark) (fits : n ≤ length ms) where
-  flows_at : p < n → flows (take (p + 1) (take n ms)) ≡ flows (take p (take n ms)) ++ cond (ltb 0 (marks_of (get_or ms p d).code (take p ms))) [] ((get_or ms p d).code ∷ [])
-  flows_at within =
-      let le : p ≤ n = omega arith in
-      let less : p + 1 ≤ n = omega arith in
-      let inside : p < length ms = omega arith in
-      ap flows (take-take (p + 1) n ms less ∙ take_more ms p d inside) ∙ flows-push (get_or ms p d) (take p ms) ∙
-      ap (λ (xs : List Mark). flows xs ++ cond (ltb 0 (marks_of (get_or ms p d).code (take p ms))) [] ((get_or ms p d).code ∷ [])) (sym (take-take p n ms le))
+-- whether a code has a mark
+has_mark : (k : Code) (ms : List Mark) → list_any (λ m. same m.code k) ms ≡ ltb 0 (marks_of k ms)
+has_mark k [] = refl
+has_mark k (m ∷ ms) = let ih = has_mark k ms in let more = marks_more k m ms in grind (arith, nat_tests)
 
-  pub flow_new : p < n → marks_of (get_or ms p d).code (take p ms) ≡ 0 → flows (take (p + 1) (take n ms)) ≡ flows (take p (take n ms)) ++ ((get_or ms p d).code ∷ [])
-  flow_new within none = flows_at within ∙ ap (λ (m : ℕ). flows (take p (take n ms)) ++ cond (ltb 0 m) [] ((get_or ms p d).code ∷ [])) none
+-- whether a code is among others
+has_code : (k : Code) (cs : List Code) → list_any (λ c. same c k) cs ≡ ltb 0 (times k cs)
+has_code k [] = refl
+has_code k (c ∷ cs) = let ih = has_code k cs in grind (arith, nat_tests)
 
-  pub flow_old : p < n → 0 < marks_of (get_or ms p d).code (take p ms) → flows (take (p + 1) (take n ms)) ≡ flows (take p (take n ms)) ++ []
-  flow_old within some = flows_at within ∙ ap (λ (b : Bool). flows (take p (take n ms)) ++ cond b [] ((get_or ms p d).code ∷ [])) (lt-ltb 0 (marks_of (get_or ms p d).code (take p ms)) some)
+-- whether a code is among the flows that have a mark
+has_flow : (k : Code) (ms : List Mark) → list_any (λ c. same c k) (flows ms) ≡ ltb 0 (marks_of k ms)
+has_flow k ms = let once = flows_once k ms in let has = has_code k (flows ms) in grind (arith, nat_tests)
 
-  pub flow_past : n ≤ p → flows (take (p + 1) (take n ms)) ≡ flows (take p (take n ms)) ++ []
-  flow_past past =
-      let long = length-take-le n ms fits in
-      ap flows (take_all (p + 1) (take n ms) (omega arith) ∙ sym (take_all p (take n ms) (omega arith))) ∙ sym (append-nil (flows (take p (take n ms))))
+-- the flows with those of one mark more
+flows_more : (ms : List Mark) (p : ℕ) (x : Mark) (seen : Bool) → p < length ms → x ≡ get_or ms p x → seen ≡ ltb 0 (marks_of x.code (take p ms)) → flows (take (p + 1) ms) ≡ flows (take p ms) ++ cond seen [] (x.code ∷ [])
+flows_more ms p x seen within here seen-is =
+    ap flows (take_more ms p x within ∙ ap (λ (m : Mark). take p ms ++ m ∷ []) (sym here)) ∙ flows-push x (take p ms) ∙
+    ap (λ (b : Bool). flows (take p ms) ++ cond b [] (x.code ∷ [])) (sym seen-is)
 
--- the flows of the first marks come first
-pub flows-front : (ms : List Mark) (n : ℕ) → (rest : List Code) × (flows ms ≡ flows (take n ms) ++ rest)
-flows-front ms zero = (flows ms, refl)
-flows-front [] (suc n) = ([], refl)
-flows-front (m ∷ ms) (suc n) =
-    let front = flows-front ms n in
-    (without m.code front.0, ap (λ (cs : List Code). m.code ∷ without m.code cs) front.1 ∙ ap (λ (cs : List Code). m.code ∷ cs) (without-append m.code (flows (take n ms)) front.0))
+-- the flows so far, with the code of the mark at a place unless it is among them
+pub flows_seen : (ms : List Mark) (p : ℕ) (d : Mark) (cs : List Code) (seen : Bool) → cs ≡ flows (take p ms) → p < length ms → seen ≡ list_any (λ c. same c (get_or ms p d).code) cs → cs ++ cond seen [] ((get_or ms p d).code ∷ []) ≡ flows (take (p + 1) ms)
+flows_seen ms p d cs seen so_far within seen-is =
+    let x = get_or ms p d in
+    let is : seen ≡ ltb 0 (marks_of x.code (take p ms)) = seen-is ∙ ap (list_any (λ c. same c x.code)) so_far ∙ has_flow x.code (take p ms) in
+    ap (λ (ks : List Code). ks ++ cond seen [] (x.code ∷ [])) so_far ∙ sym (flows_more ms p x seen within (get_or_default ms p d x within) is)
+
+-- the mark x at a place names its flow, unless one before it was seen to be of that flow
+pub flow_next : (ms : List Mark) (p : ℕ) (x : Mark) (seen : Bool) (o : Option Code) → p < length ms → x ≡ get_or ms p x → seen ≡ list_any (λ m. same m.code x.code) (take p ms) → o ≡ then_some (not seen) x.code →
+    flows (take (p + 1) ms) ≡ flows (take p ms) ++ option_to_list o
+flow_next ms p x seen o within here seen-is o-is =
+    flows_more ms p x seen within here (seen-is ∙ has_mark x.code (take p ms)) ∙ ap (λ (cs : List Code). flows (take p ms) ++ cs) (told seen ∙ ap option_to_list (sym o-is))
+  where
+    told : (b : Bool) → cond b [] (x.code ∷ []) ≡ option_to_list (then_some (not b) x.code)
+    told true = refl
+    told false = refl

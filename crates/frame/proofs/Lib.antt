@@ -1,5 +1,4 @@
 pub mod Accepting
-pub mod Arrays
 pub mod Bounds
 pub mod Budgets
 pub mod Counting
@@ -10,7 +9,6 @@ pub mod Frames
 pub mod Leaving
 pub mod Packets
 pub mod Quotients
-pub mod Ruling
 pub mod Sized
 pub mod Stretches
 pub mod Volumes

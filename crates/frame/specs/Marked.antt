@@ -1,4 +1,4 @@
--- The marks that the array holds. Assumes nothing.
+-- The marks that are kept. Assumes nothing.
 --   listed   all marks, the oldest first
 --   older    those of the previous frame
 --   newer    those of the present frame
@@ -7,7 +7,7 @@ use Rattle.frame.specs.declared.marks.Mark.{Mark}
 use Rattle.frame.specs.declared.marks.Marks.{Marks}
 
 abbrev pub listed : Marks → List Mark
-listed m = take m.count m.marks
+listed m = m.marks.items
 
 abbrev pub older : Marks → List Mark
 older m = take m.previous (listed m)

@@ -1,5 +1,6 @@
 // A plan that was accepted.
 ghost use Rattle.std.specs.Prelude.{◌≡◌, ◌^◌, ◌<◌, ◌≤◌};
+ghost use Rattle.flow.specs.Limits.{most_weight};
 ghost use Rattle.frame.specs.Plans.{block_of, unit_of};
 
 use crate::plan::Plan;
@@ -7,7 +8,7 @@ use crate::plan::Plan;
 pub mod rules;
 
 // An accepted plan, with the packets of a block and the unit of marks.
-#[derive(Clone, Copy)]
+#[derive(Debug, Clone, Copy, PartialEq, Eq, Hash)]
 pub struct Layout {
     plan: Plan,
     block: u32,
@@ -18,5 +19,5 @@ pub struct Layout {
     ghost counts: { 1 ≤ unit },
     ghost small: { unit ≤ 2 ^ 44 },
     ghost wide: { 1 ≤ plan.window },
-    ghost light: { plan.most ≤ 1048576 },
+    ghost light: { plan.most ≤ most_weight },
 }

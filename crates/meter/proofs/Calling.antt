@@ -1,63 +1,26 @@
 -- What the steps of the calls come to, on states.
-use Rattle.std.proofs.Common.{◌≡◌, ℕ, ◌+◌, ◌-◌, ◌*◌, ◌<◌, ◌≤◌, Bool, true, false, cond, eqb, ltb, List, [], ◌∷◌, ◌++◌, length, is_some, IfOk, Some, None, Ok, Err, Option, Result, sym, refl, ap, ◌∙◌, subst, arith, length-append}
-use Rattle.std.proofs.lemmas.Bool.{cond-true, cond-false, lt-ltb, ltb-false}
+use Rattle.std.proofs.Common.{◌≡◌, ℕ, ◌+◌, ◌-◌, ◌*◌, ◌<◌, ◌≤◌, Bool, true, false, cond, eqb, ltb, ◌∷◌, ◌++◌, length, IfOk, Some, None, Ok, Err, Option, Result, sym, refl, ap, ◌∙◌, subst, arith, length-append}
+use Rattle.std.proofs.lemmas.Bool.{ltb-false}
 use Rattle.std.proofs.lemmas.Bool.Decides.{nat_tests}
 use Rattle.flow.specs.Answers.{Answer, answered, refused, after, told}
-use Rattle.flow.specs.Limits.{most_marks}
-use Rattle.flow.specs.Meanings.{Meaning, Flushes, Adds, Heavy, open_leaves, add_answer, add_leaves}
-use Rattle.flow.specs.Refusals.{number}
+use Rattle.flow.specs.Meanings.{Meaning, Flushes, Adds, Heavy, add_answer}
 use Rattle.flow.specs.declared.code.Code.{Code}
 use Rattle.flow.specs.declared.refusal.Refusal.{Refusal}
 use Rattle.frame.specs.declared.plan.Plan.{Plan}
-use Rattle.frame.specs.declared.marks.Mark.{Mark}
-use Rattle.frame.specs.Plans.{judged, block_of, unit_of, next_offset}
-use Rattle.frame.specs.Marking.{dropped, due, leave}
+use Rattle.frame.specs.Plans.{block_of}
+use Rattle.frame.specs.Marking.{dropped, leave}
 use Rattle.frame.proofs.Leaving.{leave_worded}
-use Rattle.meter.specs.Ledgers.{Ledger, plan_verdict, packet_verdict, restart_verdict, noted}
+use Rattle.meter.specs.Ledgers.{Ledger, packet_verdict}
 use Rattle.meter.specs.Guarantees.{places_of}
-use Rattle.meter.specs.States.{State, plan_answer, plan_leaves, begun, left, counted, taken, packet_answer, packet_leaves, restart_leaves}
+use Rattle.meter.specs.States.{State, begun, left, counted, taken, packet_answer, packet_leaves}
 use Rattle.meter.specs.Holding.{Room, Tracks, Kept, Holds}
 use Rattle.meter.specs.Days.{packet_said}
-use Rattle.meter.proofs.Holdings.{open_taken, packet_holds}
 use Rattle.meter.proofs.Tracking.{begun_tracks, add_taken, counted_tracks, few_passes, marks_few}
-
-pub none_from : {A : Type 0} (o : Option A) → is_some o ≡ false → o ≡ None
-none_from None e = refl
-none_from (Some x) e = grind arith
-
-pub some_from : {A : Type 0} (o : Option A) → is_some o ≡ true → (x : A) × (o ≡ Some x)
-some_from None e = absurd (grind arith)
-some_from (Some x) e = (x, refl)
-
-refused_not : {A : Type 0} (n : ℕ) (a : A) → refused n ≡ answered a → ⊥
-refused_not n a e = let z : ◌≡◌ {A = ℕ} 0 1 = cc in omega arith
 
 -- a call that was answered, and with what
 pub answered_by : {A : Type 0} (r : Result A Refusal) (a : A) → told r ≡ answered a → r ≡ Ok a
 answered_by (Ok x) a e = cc
-answered_by (Err e) a h = absurd (refused_not (number e) a h)
-
-module _ {C : Type 0} (m : Meaning C) (s : State m.Model) where
-  -- a plan
-  module _ (q : Plan) (none : s.plan ≡ None) where
-    pub plan_judged : plan_answer m s q ≡ judged (m.greatest s.counter) q
-    plan_judged = ap (λ (o : Option Plan). plan_verdict (m.greatest s.counter) o q) none
-
-    pub plan_taken : judged (m.greatest s.counter) q ≡ answered tt → (p : Plan) (y : m.Model) (o n : List Mark) → p ≡ q → y ≡ open_leaves m s.counter q.places q.step → o ≡ [] → n ≡ [] →
-        record { plan = Some p; counter = y; offset = 0; older = o; newer = n } ≡ plan_leaves m s q
-    plan_taken ok p y o n p-is y-is o_is n-is =
-        let opened : y ≡ m.opened s.counter q.places q.step = y-is ∙ ap (λ (a : Answer (Unit {0})). after a s.counter (m.opened s.counter q.places q.step)) (open_taken m s.counter q ok) in
-        let new : State m.Model = record { plan = Some q; counter = m.opened s.counter q.places q.step; offset = 0; older = []; newer = [] } in
-        (λ i. record { plan = Some (p-is i); counter = opened i; offset = 0; older = o_is i; newer = n-is i }) ∙ ap (λ (a : Answer (Unit {0})). after a s new) (sym (plan_judged ∙ ok))
-
-    pub plan_refused : (n : ℕ) → judged (m.greatest s.counter) q ≡ refused n → s ≡ plan_leaves m s q
-    plan_refused n h = ap (λ (a : Answer (Unit {0})). after a s (record { plan = Some q; counter = m.opened s.counter q.places q.step; offset = 0; older = []; newer = [] })) (sym (plan_judged ∙ h))
-
-  -- a restart
-  pub restart_taken : (p : Plan) → s.plan ≡ Some p → (y : m.Model) (o n : List Mark) → y ≡ m.flushed s.counter → o ≡ [] → n ≡ [] → record { plan = s.plan; counter = y; offset = 0; older = o; newer = n } ≡ restart_leaves m s
-  restart_taken p is y o n y-is o_is n-is =
-      let new : State m.Model = record { plan = s.plan; counter = m.flushed s.counter; offset = 0; older = []; newer = [] } in
-      (λ i. record { plan = s.plan; counter = y-is i; offset = 0; older = o_is i; newer = n-is i }) ∙ ap (λ (o : Option Plan). after (restart_verdict o) s new) (sym is)
+answered_by (Err e) a h = cc
 
 -- what a packet of lawful weight comes to
 pub record Packeted {C : Type 0} (m : Meaning C) (s : State m.Model) (l : Ledger) (r : Result ℕ Refusal) (e : State m.Model) (k : Code) (w : ℕ) : Type 0 where
@@ -66,7 +29,6 @@ pub record Packeted {C : Type 0} (m : Meaning C) (s : State m.Model) (l : Ledger
   pub answer : told r ≡ packet_answer m s k w
   pub state : e ≡ packet_leaves m s k w
   pub few : passes ≤ places_of l.plan
-  pub holds : Holds m e (noted l k w)
 
 module _ {C : Type 0} (m : Meaning C) (flushes : Flushes m) (adds : Adds m) (heavy : Heavy m) (s : State m.Model) (l : Ledger) (h : Holds m s l) (p : Plan) (is : s.plan ≡ Some p) (k : Code) (w : ℕ) (some : 1 ≤ w) (light : w ≤ p.most) where
   planned_by : l.plan ≡ Some p
@@ -118,7 +80,6 @@ module _ {C : Type 0} (m : Meaning C) (flushes : Flushes m) (adds : Adds m) (hea
         answer = all ∙ ap {B = Answer ℕ} answered passes-is ∙ sym (verdict (m.passes (begun m s).counter k w));
         state = state;
         few = omega (arith, passes-is, few_passes m p (begun m s) l.roll frame.0 frame.1 k w some light adds heavy, ap places_of planned_by);
-        holds = subst (λ (y : State m.Model). Holds m y (noted l k w)) (sym state) (packet_holds m s flushes adds heavy l k w h);
       }
 
 -- at most 2 (n - 1) marks
@@ -128,30 +89,6 @@ few_marks m heavy s l h n is = by l.plan h.kept
     by : (o : Option Plan) → Kept m o s l → n ≤ 2 * (places_of o - 1)
     by None kept = omega (arith, length-append s.older s.newer, ap length kept.1, ap length kept.2)
     by (Some p) kept = omega (arith, length-append s.older s.newer, marks_few m p s l.roll kept.0 kept.1 heavy)
-
--- the steps of a count, where there is room
-module _ {C : Type 0} (m : Meaning C) (p : Plan) (s : State m.Model) (k : Code) (w : ℕ) (room : Room m p s k w) where
-  abbrev mark : Mark
-  mark = record { code = k; offset = s.offset }
-
-  pub count_done : (y : m.Model) (n : ℕ) (o ms : List Mark) → y ≡ add_leaves m s.counter k w → n ≡ next_offset p s.offset → o ≡ s.older → ms ≡ (counted m p s k w).newer → record { plan = s.plan; counter = y; offset = n; older = o; newer = ms } ≡ counted m p s k w
-  count_done y n o ms y-is n-is o_is ms-is =
-      let added : y ≡ m.added s.counter k w = y-is ∙ ap (λ (a : Answer ℕ). after a s.counter (m.added s.counter k w)) room.add_taken in
-      λ i. record { plan = s.plan; counter = added i; offset = n-is i; older = o_is i; newer = ms-is i }
-
-  -- the mark is due, and put
-  pub mark_put : (b : Bool) (q n : ℕ) (ms : List Mark) → b ≡ due (unit_of p) q w → q ≡ m.estimate s.counter k → b ≡ true → n ≡ length s.older + length s.newer → ms ≡ cond (ltb n most_marks) (s.newer ++ mark ∷ []) s.newer → ms ≡ (counted m p s k w).newer
-  mark_put b q n ms b-is q-is yes' n-is ms-is =
-      let is-due : due (unit_of p) (m.estimate s.counter k) w ≡ true = ap (λ (x : ℕ). due (unit_of p) x w) (sym q-is) ∙ sym b-is ∙ yes' in
-      let more : (counted m p s k w).newer ≡ s.newer ++ mark ∷ [] = cond-true _ _ _ is-due in
-      let less : n < most_marks = omega (arith, room.fits, ap length more, length-append s.newer (mark ∷ [])) in
-      ms-is ∙ cond-true _ _ _ (lt-ltb n most_marks less) ∙ sym more
-
-  -- no mark is due
-  pub mark_not : (b : Bool) (q : ℕ) → b ≡ due (unit_of p) q w → q ≡ m.estimate s.counter k → b ≡ false → s.newer ≡ (counted m p s k w).newer
-  mark_not b q b-is q-is no' =
-      let not-due : due (unit_of p) (m.estimate s.counter k) w ≡ false = ap (λ (x : ℕ). due (unit_of p) x w) (sym q-is) ∙ sym b-is ∙ no' in
-      sym (cond-false _ _ _ not-due)
 
 -- a packet's answer: refused by its weight, or the passes, at most as many as the places
 pub passes_few : {C : Type 0} (m : Meaning C) → Flushes m → Adds m → Heavy m → (s : State m.Model) (l : Ledger) → Holds m s l → (k : Code) (w : ℕ) →

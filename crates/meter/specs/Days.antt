@@ -1,6 +1,6 @@
 -- A day: calls on one meter, one after the other, and their answers. Assumes nothing.
---   Said   what a reply says, refusals by their numbers
---   said   what a reply of the code says
+--   Said   what a call is told, refusals by their numbers
+--   said   what an answer of the code says
 --   plan_said, packet_said, estimate_said, list_said, restart_said   the answers of each call as replies
 --   step          the ledger after a call
 --   Right         the answers that a call may have under a ledger: the refusals are those of the rules, and estimates and lists are within the bounds of the true volumes of the roll
@@ -10,12 +10,13 @@
 --   call_leaves   the state after a call
 --   day_said      what calls are answered by the rules, one after the other
 --   day_leaves    the state after them
-use Rattle.std.specs.Prelude.{◌≡◌, ℕ, ◌≤◌, List, [], ◌∷◌, vec_items}
+use Rattle.std.specs.Prelude.{◌≡◌, ℕ, ◌≤◌, List, [], ◌∷◌, Ok, Err, vec_items, Result}
 use Rattle.flow.specs.Answers.{Answer, answered, refused}
 use Rattle.flow.specs.Limits.{least_scratch, most_marks}
 use Rattle.flow.specs.Meanings.{Meaning}
 use Rattle.flow.specs.Refusals.{number}
 use Rattle.flow.specs.declared.code.Code.{Code}
+use Rattle.flow.specs.declared.refusal.Refusal.{Refusal}
 use Rattle.meter.specs.declared.record.Record.{Record}
 use Rattle.meter.specs.declared.day.Call.{Call}
 use Rattle.meter.specs.declared.day.Call.TheVariants as call
@@ -33,13 +34,13 @@ pub data Said : Type 0 where
   says_restarted : Said
   says_refused : ℕ → Said
 
-abbrev pub said : Reply → Said
-said reply.Planned = says_planned
-said (reply.Took x) = says_took x
-said (reply.Estimated e) = says_estimate e
-said (reply.Listed v) = says_list (vec_items v)
-said reply.Restarted = says_restarted
-said (reply.Refused e) = says_refused (number e)
+abbrev pub said : Result Reply Refusal → Said
+said (Ok reply.Planned) = says_planned
+said (Ok (reply.Took x)) = says_took x
+said (Ok (reply.Estimated e)) = says_estimate e
+said (Ok (reply.Listed v)) = says_list (vec_items v)
+said (Ok reply.Restarted) = says_restarted
+said (Err e) = says_refused (number e)
 
 abbrev pub plan_said : Answer (Unit {0}) → Said
 plan_said (answered x) = says_planned

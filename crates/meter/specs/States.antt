@@ -14,7 +14,6 @@
 --   estimate_for      what an estimate is answered, by the plan
 --   estimate_answer   what an estimate is answered
 --   listing           of some flows, the records of those with an estimate of at least a level
---   list_to           the list at a level of the flows among the first n marks
 --   list_in           the list at a level: flows with a mark, in the order of their oldest marks
 --   list_for          what a list is answered, by the plan, for lengths of scratch and table
 --   list_answer       what a list is answered
@@ -23,7 +22,7 @@
 --   scratch_leaves    the scratch after a list: all zero
 --   restart_answer    what a restart is answered
 --   restart_leaves    the state after a restart
-use Rattle.std.specs.Prelude.{ℕ, ◌*◌, cond, List, [], ◌∷◌, ◌++◌, length, take, drop, replicate, Some, None, Option, ◌==◌, nat_le, nat_lt}
+use Rattle.std.specs.Prelude.{ℕ, ◌*◌, cond, List, [], ◌∷◌, ◌++◌, length, drop, replicate, Some, None, Option, ◌==◌, nat_le, nat_lt}
 use Rattle.flow.specs.Answers.{Answer, answered, refused, after}
 use Rattle.flow.specs.Limits.{least_scratch}
 use Rattle.flow.specs.Meanings.{Meaning}
@@ -105,9 +104,6 @@ module _ {C : Type 0} (m : Meaning C) where
 
   abbrev pub estimate_answer : State m.Model → Code → Answer ℕ
   estimate_answer s k = estimate_for s.plan s k
-
-  abbrev pub list_to : State m.Model → Plan → ℕ → ℕ → List Record
-  list_to s p level n = listing (estimate_in s p) level (flows (take n (s.older ++ s.newer)))
 
   abbrev pub list_in : State m.Model → Plan → ℕ → List Record
   list_in s p level = listing (estimate_in s p) level (flows (s.older ++ s.newer))

@@ -1,7 +1,15 @@
 // A day of calls on one meter.
+ghost use Rattle.std.specs.Prelude.{◌≡◌, map, IfOk};
+ghost use Rattle.flow.specs.Limits.{least_scratch, most_marks};
+ghost use Rattle.meter.specs.Ledgers.{Ledger};
+ghost use Rattle.meter.specs.States.{list_answer};
+ghost use Rattle.meter.specs.Meters.{state_of};
+ghost use Rattle.meter.specs.Holding.{Holds};
+ghost use Rattle.meter.specs.Days.{said, call_said, call_leaves, Day};
+ghost use Rattle.meter.specs.Tables.{told_list};
+
 use crate::meter::Meter;
 use crate::record::Record;
-use flow::code::Code;
 use flow::counter::FrameCounter;
 use flow::key::FlowKey;
 use flow::limits::{LEAST_SCRATCH, MOST_MARKS};
@@ -10,7 +18,7 @@ use frame::plan::Plan;
 use std::alloc::{AllocError, Global};
 
 // A call on a meter.
-#[derive(Drop)]
+#[derive(Debug, Drop)]
 pub enum Call<K> {
     Plan(Plan),
     Packet(K, u32),
@@ -19,21 +27,18 @@ pub enum Call<K> {
     Restart,
 }
 
-// What a meter answers to a call.
-#[derive(Drop)]
+// What a meter replies to a call that it takes.
+#[derive(Debug, Drop)]
 pub enum Reply {
     Planned,
     Took(usize),
     Estimated(u64),
     Listed(Vec<Record>),
     Restarted,
-    Refused(Refusal),
 }
 
-const BLANK: Record = Record {
-    code: Code { high: 0, low: 0 },
-    estimate: 0,
-};
+// What a call is answered: a reply, or why it is refused.
+pub type Answered = Result<Reply, Refusal>;
 
 impl<C: FrameCounter> Meter<C> {
     // Makes a call.
@@ -41,42 +46,32 @@ impl<C: FrameCounter> Meter<C> {
         &mut self,
         heap: Global,
         call: &Call<K>,
-    ) -> Result<Reply, AllocError> {
-        let reply = match call {
-            Call::Plan(plan) => match self.plan(*plan) {
-                Ok(()) => Reply::Planned,
-                Err(refusal) => Reply::Refused(refusal),
-            },
-            Call::Packet(key, weight) => match self.packet(key, *weight) {
-                Ok(passes) => Reply::Took(passes),
-                Err(refusal) => Reply::Refused(refusal),
-            },
-            Call::Estimate(key) => match self.estimate(key) {
-                Ok(estimate) => Reply::Estimated(estimate),
-                Err(refusal) => Reply::Refused(refusal),
-            },
-            Call::List(level) => match self.listing(heap, *level)? {
-                Ok(records) => Reply::Listed(records),
-                Err(refusal) => Reply::Refused(refusal),
-            },
-            Call::Restart => match self.restart() {
-                Ok(()) => Reply::Restarted,
-                Err(refusal) => Reply::Refused(refusal),
-            },
+    ) -> Result<Answered, AllocError>
+        ensures said { (l : Ledger) → Holds C.meaning (state_of C.meaning self.old) l → IfOk result (λ a. said a ≡ call_said K.coded C.meaning (state_of C.meaning self.old) call.now) }
+        ensures state { (l : Ledger) → Holds C.meaning (state_of C.meaning self.old) l → state_of C.meaning self.new ≡ call_leaves K.coded C.meaning (state_of C.meaning self.old) call.now }
+    {
+        let answered = match call {
+            Call::Plan(plan) => self.plan(*plan).map(|()| Reply::Planned),
+            Call::Packet(key, weight) => self.packet(key, *weight).map(Reply::Took),
+            Call::Estimate(key) => self.estimate(key).map(Reply::Estimated),
+            Call::List(level) => self.listing(heap, *level)?.map(Reply::Listed),
+            Call::Restart => self.restart().map(|()| Reply::Restarted),
         };
-        Ok(reply)
+        Ok(answered)
     }
 
-    // The list at a level, in memory of its own.
+    // The list at a level, in memory of its own. A day goes on after a refusal and ends where memory does, so the two stay apart.
     pub(crate) fn listing(
         &self,
         heap: Global,
         level: u64,
-    ) -> Result<Result<Vec<Record>, Refusal>, AllocError> {
+    ) -> Result<Result<Vec<Record>, Refusal>, AllocError>
+        ensures { IfOk result (λ r. told_list r ≡ list_answer C.meaning (state_of C.meaning self.now) level least_scratch most_marks) }
+    {
         let mut scratch = [0u8; LEAST_SCRATCH];
-        let mut table = [BLANK; MOST_MARKS];
+        let mut table = [Record::default(); MOST_MARKS];
         match self.list(level, &mut scratch, &mut table) {
-            Ok(count) => Ok(Ok(table[0..count].to_vec(heap)?)),
+            Ok(count) => Ok(Ok(table[..count].to_vec(heap)?)),
             Err(refusal) => Ok(Err(refusal)),
         }
     }
@@ -87,11 +82,13 @@ pub(crate) fn day<K: FlowKey, C: FrameCounter + Drop>(
     heap: Global,
     counter: C,
     calls: &[Call<K>],
-) -> Result<Vec<Reply>, AllocError> {
+) -> Result<Vec<Answered>, AllocError>
+    ensures { IfOk result (λ answers. Day K.coded (C.meaning.greatest (C.meaning.model counter)) calls.now (map said answers.items)) }
+{
     let mut meter = Meter::new(counter);
-    let mut replies = Vec::new(heap);
+    let mut answers = Vec::new(heap);
     for call in calls {
-        replies.push(meter.call(heap, call)?)?;
+        answers.push(meter.call(heap, call)?)?;
     }
-    Ok(replies)
+    Ok(answers)
 }

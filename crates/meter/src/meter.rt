@@ -4,12 +4,19 @@ use frame::marks::Marks;
 
 pub mod calls;
 pub mod lists;
+mod steps;
 
-// A meter: the counter that it took over, its accepted plan, the offset of the next packet in its frame, and its marks.
+// A meter: the counter that it took over and, once a plan was accepted, its window.
 #[derive(Drop)]
 pub struct Meter<C> {
     counter: C,
-    layout: Option<Layout>,
+    window: Option<Window>,
+}
+
+// The window under an accepted plan: the offset of the next packet in its frame, and the marks.
+#[derive(Drop)]
+struct Window {
+    layout: Layout,
     offset: u32,
     marks: Marks,
 }

@@ -2,7 +2,7 @@
 use flow::code::Code;
 
 // The code of a flow and its estimate.
-#[derive(Clone, Copy)]
+#[derive(Debug, Clone, Copy, PartialEq, Eq, Hash, Default)]
 pub struct Record {
     pub code: Code,
     pub estimate: u64,

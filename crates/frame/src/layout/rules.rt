@@ -1,41 +1,46 @@
 // What an accepted plan decides: which plans are accepted, where blocks lie, which packets are marked.
 ghost use Rattle.std.specs.Prelude.{◌≡◌, ◌/◌, ◌^◌, ◌≤◌};
-ghost use Rattle.frame.specs.Plans.{block_of, unit_of, next_offset};
+ghost use Rattle.flow.specs.Answers.{told};
+ghost use Rattle.frame.specs.Plans.{judged, block_of, unit_of, next_offset};
 ghost use Rattle.frame.specs.Marking.{due};
 ghost use Rattle.frame.specs.Layouts.{Laid};
 
 use crate::layout::Layout;
 use crate::plan::Plan;
-use flow::limits::{MOST_PLACES, MOST_WEIGHT, MOST_WINDOW};
+use flow::limits::{MOST_WEIGHT, MOST_WINDOW};
 use flow::refusal::Refusal;
+use flow::sizes::Sizes;
+
+impl Plan {
+    // Whether the numbers of a plan can be kept over a counter with this greatest step.
+    fn check(&self, greatest_step: u32) -> Result<(), Refusal>
+        ensures { told result ≡ judged greatest_step self.now }
+    {
+        let Sizes { places, step } = Sizes::of(self.places, self.step, greatest_step)?;
+        if !(1..=MOST_WEIGHT).contains(&self.most) {
+            return Err(Refusal::GreatestWeightOutOfRange);
+        }
+        if !(1..=MOST_WINDOW).contains(&self.window) {
+            return Err(Refusal::WindowOutOfRange);
+        }
+        if self.blocks == 0 || self.window % self.blocks != 0 {
+            return Err(Refusal::BlocksUnfit);
+        }
+        // There is no `From` to turn a usize into a u64, and the cast loses nothing.
+        let worth = places as u64 * u64::from(self.most);
+        if worth <= u64::from(self.blocks) * (u64::from(self.most) + u64::from(step - 1)) {
+            return Err(Refusal::PlacesTooFew);
+        }
+        Ok(())
+    }
+}
 
 impl Layout {
     // The layout of a plan over a counter with this greatest step.
     pub fn of(plan: Plan, greatest_step: u32) -> Result<Layout, Refusal>
         ensures { Laid greatest_step plan result }
     {
-        if plan.places < 1 || plan.places > MOST_PLACES {
-            return Err(Refusal::PlacesOutOfRange);
-        }
-        if plan.step < 1 || plan.step > greatest_step {
-            return Err(Refusal::StepOutOfRange);
-        }
-        if plan.most < 1 || plan.most > MOST_WEIGHT {
-            return Err(Refusal::GreatestWeightOutOfRange);
-        }
-        if plan.window < 1 || plan.window > MOST_WINDOW {
-            return Err(Refusal::WindowOutOfRange);
-        }
-        if plan.blocks == 0 {
-            return Err(Refusal::BlocksUnfit);
-        }
-        if plan.window % plan.blocks != 0 {
-            return Err(Refusal::BlocksUnfit);
-        }
-        let worth = plan.places as u64 * u64::from(plan.most);
-        if worth <= u64::from(plan.blocks) * (u64::from(plan.most) + u64::from(plan.step - 1)) {
-            return Err(Refusal::PlacesTooFew);
-        }
+        plan.check(greatest_step)?;
         let block = plan.window / plan.blocks;
         Ok(Layout {
             plan,

@@ -6,13 +6,9 @@ ghost use Rattle.frame.specs.Marking.{marks_of, flows};
 ghost use Rattle.frame.specs.Marked.{listed, older, newer};
 
 use crate::marks::{Mark, Marks};
+use arrayvec::ArrayVec;
 use flow::code::Code;
 use flow::limits::MOST_MARKS;
-
-const BLANK: Mark = Mark {
-    code: Code { high: 0, low: 0 },
-    offset: 0,
-};
 
 impl Marks {
     // No marks.
@@ -21,8 +17,7 @@ impl Marks {
         ensures newer { newer result ≡ [] }
     {
         Marks {
-            marks: [BLANK; MOST_MARKS],
-            count: 0,
+            marks: ArrayVec::new(),
             previous: 0,
         }
     }
@@ -32,7 +27,7 @@ impl Marks {
         ensures count { result ≡ length (listed self.now) }
         ensures few { result ≤ most_marks }
     {
-        self.count
+        self.marks.len()
     }
 
     // How many marks a flow has.
@@ -40,39 +35,36 @@ impl Marks {
         ensures count { result ≡ marks_of code (listed self.now) }
         ensures few { result ≤ most_marks }
     {
-        let mut n = 0;
-        for i in 0..self.count {
-            if self.marks[i].code.same(code) {
-                n += 1;
-            }
-        }
-        n
+        self.marks.iter().filter(|mark| mark.code == code).count()
     }
 
     // The oldest mark of the previous frame.
     pub fn oldest(&self) -> Option<Mark>
         ensures { option_to_list result ≡ take 1 (older self.now) }
     {
-        if self.previous == 0 {
-            return None;
-        }
-        Some(self.marks[0])
+        self.marks[..self.previous].first().copied()
     }
 
-    // The flow of the mark at this place, if no mark before it is of that flow.
+    // The flows that have a mark, each once, in the order of their oldest marks.
+    pub fn flows(&self) -> ArrayVec<Code, MOST_MARKS>
+        ensures { result.items ≡ flows (listed self.now) }
+    {
+        let mut flows = ArrayVec::new();
+        for mark in self.marks.iter() {
+            if !flows.contains(&mark.code) {
+                flows.push(mark.code);
+            }
+        }
+        flows
+    }
+
+    // The flow of the mark at this place, if no mark before it is of that flow. `flows` has them all.
     pub fn flow_at(&self, place: usize) -> Option<Code>
         ensures { flows (take (place + 1) (listed self.now)) ≡ flows (take place (listed self.now)) ++ option_to_list result }
     {
-        if place >= self.count {
-            return None;
-        }
-        let code = self.marks[place].code;
-        for i in 0..place {
-            if self.marks[i].code.same(code) {
-                return None;
-            }
-        }
-        Some(code)
+        let code = self.marks.get(place)?.code;
+        let is_first = !self.marks[..place].iter().any(|mark| mark.code == code);
+        is_first.then_some(code)
     }
 
     // Puts a mark last; where there is no room, all stays.
@@ -80,10 +72,7 @@ impl Marks {
         ensures older { older self.new ≡ older self.old }
         ensures newer { newer self.new ≡ (if nat_lt (length (listed self.old)) most_marks then newer self.old ++ mark ∷ [] else newer self.old) }
     {
-        if self.count < MOST_MARKS {
-            self.marks[self.count] = mark;
-            self.count += 1;
-        }
+        let _ = self.marks.try_push(mark);
     }
 
     // Drops the oldest mark of the previous frame.
@@ -92,8 +81,7 @@ impl Marks {
         ensures newer { newer self.new ≡ newer self.old }
     {
         if self.previous > 0 {
-            self.marks.rotate_left(1);
-            self.count -= 1;
+            self.marks.remove(0);
             self.previous -= 1;
         }
     }
@@ -103,7 +91,7 @@ impl Marks {
         ensures older { older self.new ≡ older self.old ++ newer self.old }
         ensures newer { newer self.new ≡ [] }
     {
-        self.previous = self.count;
+        self.previous = self.marks.len();
     }
 
     // Drops every mark.
@@ -111,7 +99,7 @@ impl Marks {
         ensures older { older self.new ≡ [] }
         ensures newer { newer self.new ≡ [] }
     {
+        self.marks.clear();
         self.previous = 0;
-        self.count = 0;
     }
 }

@@ -1,15 +1,15 @@
--- The loop counts the marks of a code.
-use Rattle.std.proofs.Common.{◌<◌, length, arith}
-use Rattle.frame.proofs.Ruling.{count_more, count_yes, count_no}
+-- The chain counts the marks of a code.
+use Rattle.std.proofs.Common.{sym, ◌∙◌, rules, tests}
+use Rattle.std.proofs.lemmas.Iterator.{YieldsList-from_slice}
+use Rattle.std.proofs.lemmas.Iterator.Consumers.{YieldsList-at, YieldsList-from_filter, count_from_yields_List}
+use Rattle.flow.specs.Codes.{same}
+use Rattle.frame.specs.declared.marks.Mark.{Mark}
+use Rattle.frame.proofs.Counting.{marks-filtered}
 use Rattle.frame.proofs.marks.Marks.count_of.Goals as goal
-use Rattle.frame.proofs.marks.Marks.count_of.Goals.{then-same, else-same}
 
-pub loop-i-preserved : goal.loop-i-preserved
-loop-i-preserved c =
-    let ms = c.args.self.now.marks in
-    let within : c.loop-i.i < length ms = omega arith in
-    let more = count_more c.args.code ms c.loop-i.i (record { code = record { high = 0; low = 0 }; offset = 0 }) within in
-    elim c.if-same.branch [
-      | then-same w ↦ (omega (arith, w.n-is, c.loop-i.invariant.0, count_yes _ _ _ _ c.same.ensures more w.if-same.true), omega (arith, w.n-is, c.loop-i.invariant.1))
-      | else-same w ↦ (omega (arith, w.n-is, c.loop-i.invariant.0, count_no _ _ _ _ c.same.ensures more w.if-same.false), omega (arith, w.n-is, c.loop-i.invariant.1))
-    ]
+pub returns-clause-count : goal.returns-clause-count
+returns-clause-count c =
+    let ms = c.args.self.now.marks.items in
+    let of_flow = λ (m : Mark). same m.code c.args.code in
+    count_from_yields_List c.filter.result c.count.result c.count.ensures.ran (YieldsList-from_filter _ of_flow (YieldsList-at c.filter.ensures.source (YieldsList-from_slice ms cc)) c.filter.ensures.closure (λ x b q k. search (rules, tests))) ∙
+    sym (marks-filtered c.args.code ms)

@@ -1,29 +1,24 @@
-use Rattle.std.proofs.Common.{◌≡◌, ℕ, ◌*◌, ◌≤◌, List, length, take, drop, Some, Option, sym, ap, ◌∙◌, subst, arith}
-use Rattle.std.specs.Option.{option_map}
-use Rattle.flow.specs.Answers.{Answer, answered}
-use Rattle.frame.specs.declared.layout.Layout.{Layout}
+-- The records in front of the table are the list by the rules.
+use Rattle.std.proofs.Common.{◌≡◌, ◌*◌, ◌≤◌, ◌++◌, length, take, drop, Option, refl, sym, ap, ◌∙◌, subst, arith}
 use Rattle.frame.specs.Plans.{unit_of}
-use Rattle.meter.specs.declared.record.Record.{Record}
+use Rattle.meter.specs.declared.meter.Window.{Window}
 use Rattle.meter.specs.Guarantees.{ListsUnder}
-use Rattle.meter.specs.States.{list_in, count_of, table_leaves, scratch_leaves}
-use Rattle.meter.specs.Meters.{state_of}
-use Rattle.meter.proofs.Listing.{list_taken, list_right, taken-front}
+use Rattle.meter.specs.States.{list_in}
+use Rattle.meter.specs.Meters.{windowed, state_in}
+use Rattle.meter.specs.Holding.{Holds}
+use Rattle.meter.proofs.Listing.{list_right, taken-front}
 use Rattle.meter.proofs.meter.Meter.list.Goals as goal
 
-pub returns : goal.returns
-returns g c =
+pub returns-clause-bounds : goal.returns-clause-bounds
+returns-clause-bounds g c =
     let m = g.C.FrameCounter.meaning in
-    let s = state_of m c.args.self.now in
-    let p = c.in-Some.layout.plan in
-    let level = c.args.level in
-    let is : s.plan ≡ Some p = ap (λ (o : Option Layout). option_map (λ (l : Layout). l.plan) o) c.in-Some.is in
-    let high : 3 * unit_of p ≤ level = omega (arith, c.unit.ensures.value, c.if-level-unit.false) in
-    let count = c.count_listed-count.ensures in
-    let taken = list_taken m s p level is (length c.args.scratch.now) (length c.args.table.now) high (omega arith) (omega (arith, count)) in
-    let rs = list_in m s p level in
-    record {
-      answer = ap {B = Answer ℕ} answered count ∙ sym (ap count_of taken);
-      table = c.write_listed.ensures ∙ sym (ap (λ (a : Answer (List Record)). table_leaves a c.args.table.now) taken);
-      scratch = c.clear.ensures ∙ sym (ap (λ (a : Answer (List Record)). scratch_leaves a c.args.scratch.now) taken);
-      bounds = λ l h. subst (ListsUnder l.plan l.roll level) (sym (ap (take c.count_listed-count.result) c.write_listed.ensures ∙ taken-front rs (drop (length rs) c.args.table.now) c.count_listed-count.result count)) (list_right m s p level is high l h);
-    }
+    let x = c.args.self.now.counter in
+    let s = windowed m x c.in-Some.window in
+    let p = c.in-Some.window.layout.plan in
+    let high : 3 * unit_of p ≤ c.args.level = omega (arith, c.unit.ensures.value, c.if-level-unit.false) in
+    let rs = list_in m s p c.args.level in
+    let n = c.len-count.result in
+    let behind = drop n c.args.table.now in
+    let written : c.copy_from_slice.new.self ≡ rs = c.copy_from_slice.ensures.after ∙ c.deref.ensures.0 ∙ c.records-records.ensures in
+    let front = ap (λ xs. take n (xs ++ behind)) written ∙ taken-front rs behind n (c.len-count.ensures.value ∙ ap length c.records-records.ensures) in
+    λ l h. subst (ListsUnder l.plan l.roll c.args.level) (sym front) (list_right m s p c.args.level refl high l (subst (λ (w : Option Window). Holds m (state_in m x w) l) c.in-Some.is h))
