@@ -21,7 +21,7 @@ impl<C: FrameCounter> Peaked<C> {
         Peaked { counter, peak: 0 }
     }
 
-    // The most passes of an add, 0 where there was none.
+    // The most passes of an add. It is promised to be 0 where there was none, as the most of no numbers is.
     pub fn peak(&self) -> usize
         ensures { result ≡ self.now.peak }
     {

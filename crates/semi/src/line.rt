@@ -59,7 +59,7 @@ impl Line {
         self.entries.as_slice()
     }
 
-    // The place of the entry with this code. (`position` made an add an eighth slower, and an add may not get slower.)
+    // The place of the entry with this code. (`position` made an add an eighth slower; a tenth is the bar.)
     fn find(&self, code: Code) -> Option<usize>
         ensures { MatchOption result (holds code self.now.entries.items ≡ false) (λ i. (i < length self.now.entries.items) × ((slice_index_or self.now.entries.items i blank).code ≡ code)) }
     {
@@ -114,6 +114,7 @@ impl Line {
     }
 
     // Adds a packet: to the entry of the code, or to what the code counts from, once that stands at the front. Answers the passes.
+    // Code and weight come as the counter's `add` has them.
     pub(crate) fn add(&mut self, code: Code, weight: u32) -> usize
         requires light { weight < 2 ^ 21 }
         requires fits { total self.old.sizes.step self.old.entries.items < 2 ^ 48 }

@@ -12,7 +12,7 @@ use semi::{Entry, SemiOrdered};
 use std::alloc::AllocError;
 use std::{fmt, io};
 
-// How a code comes to its entry.
+// How a code comes to its entry. Its rules have nothing in common with those of the other kind.
 #[derive(Debug, Clone, Copy, PartialEq, Eq)]
 pub enum Way {
     Held,
@@ -45,10 +45,8 @@ fn way_of(counter: &SemiOrdered, code: Code) -> Way
     if line.len() < counter.places() {
         return Way::Enters;
     }
-    match line {
-        [first, ..] => Way::Evicts(*first),
-        [] => Way::Enters,
-    }
+    line.first()
+        .map_or(Way::Enters, |first| Way::Evicts(*first))
 }
 
 // What the working of an add needs of the counter before it.

@@ -11,7 +11,7 @@ use shared::{Held, Place, SharedDeduction};
 use std::alloc::AllocError;
 use std::{fmt, io};
 
-// How a code comes to its count.
+// How a code comes to its count. Its rules have nothing in common with those of the other kind.
 #[derive(Debug, Clone, Copy, PartialEq, Eq)]
 pub enum Way {
     Held,

@@ -58,7 +58,7 @@ impl Marks {
         flows
     }
 
-    // The flow of the mark at this place, if no mark before it is of that flow. `flows` has them all.
+    // The flow of the mark at this place, if no mark before it is of that flow. Callers were promised it, so it stands; `flows` has them all.
     pub fn flow_at(&self, place: usize) -> Option<Code>
         ensures { flows (take (place + 1) (listed self.now)) ≡ flows (take place (listed self.now)) ++ option_to_list result }
     {
@@ -94,7 +94,7 @@ impl Marks {
         self.previous = self.marks.len();
     }
 
-    // Drops every mark.
+    // Drops every mark. Callers were promised it, so it stands.
     pub fn clear(&mut self)
         ensures older { older self.new ≡ [] }
         ensures newer { newer self.new ≡ [] }

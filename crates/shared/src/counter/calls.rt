@@ -67,7 +67,7 @@ impl SharedDeduction {
         places::any_empty(self.held())
     }
 
-    // The least count, and 2^64 - 1 where every place is empty: callers want the smaller of it and a weight.
+    // The least count. It is promised to be 2^64 - 1 where every place is empty: callers want the smaller of it and a weight.
     pub fn least_count(&self) -> u64
         ensures { result ≡ least (2 ^ 64 - 1) (shared_meaning.model self.now).held }
     {
