@@ -14,7 +14,8 @@ use Rattle.meter.specs.Ledgers.{Ledger, fresh, plan_verdict, restart_verdict}
 use Rattle.meter.specs.Guarantees.{places_of, Lists, ListRight}
 use Rattle.meter.specs.States.{State, unplanned, estimate_answer, list_in, list_for, list_answer}
 use Rattle.meter.specs.Holding.{Kept, Holds}
-use Rattle.meter.specs.Days.{Said, plan_said, restart_said, step, Right, Runs, Day, call_said, call_leaves, day_said, day_leaves}
+use Rattle.meter.specs.Days.{Said, plan_said, restart_said, step, Right, Runs, Day}
+use Rattle.meter.specs.Sequences.{call_said, call_leaves, day_said, day_leaves}
 use Rattle.meter.proofs.Answering.{lists, estimate_right, list_few}
 use Rattle.meter.proofs.Calling.{few_marks, passes_few}
 use Rattle.meter.proofs.Holdings.{new_holds, plan_holds, packet_holds, restart_holds}

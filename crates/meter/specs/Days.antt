@@ -1,19 +1,13 @@
--- A day: calls on one meter, one after the other, and their answers. Assumes nothing.
---   Said   what a call is told, refusals by their numbers
---   said   what an answer of the code says
---   plan_said, packet_said, estimate_said, list_said, restart_said   the answers of each call as replies
---   step          the ledger after a call
---   Right         the answers that a call may have under a ledger: the refusals are those of the rules, and estimates and lists are within the bounds of the true volumes of the roll
---   Runs          answers to calls, one by one, from a ledger on
---   Day           answers to the calls of a day, from a new meter on: the guarantee
---   call_said     what a call is answered by the rules
---   call_leaves   the state after a call
---   day_said      what calls are answered by the rules, one after the other
---   day_leaves    the state after them
+-- A day: calls on one meter, one after the other, and their answers. The guarantee, in terms of calls, answers and true volumes alone. Assumes nothing.
+--   Said      what a call is told: a refusal by its number
+--   said      what an answer of the code says
+--   plan_said, packet_said, estimate_said, list_said, restart_said   the answers of each call as what is said
+--   step      the ledger after a call: what the calls alone decide, the roll of accepted packets among it (Ledgers)
+--   Right     what a call may be told under a ledger: refusals are exactly those of the rules, passes are at most as many as the places, and estimates and lists are within the bounds of the true volumes of the roll (Guarantees)
+--   Runs      what the calls of a list may be told, one after the other, from a ledger on
+--   Day       what the calls of a day may be told, on a new meter over a counter of this greatest step: the guarantee
 use Rattle.std.specs.Prelude.{◌≡◌, ℕ, ◌≤◌, List, [], ◌∷◌, Ok, Err, vec_items, Result}
 use Rattle.flow.specs.Answers.{Answer, answered, refused}
-use Rattle.flow.specs.Limits.{least_scratch, most_marks}
-use Rattle.flow.specs.Meanings.{Meaning}
 use Rattle.flow.specs.Refusals.{number}
 use Rattle.flow.specs.declared.code.Code.{Code}
 use Rattle.flow.specs.declared.refusal.Refusal.{Refusal}
@@ -24,7 +18,6 @@ use Rattle.meter.specs.declared.day.Reply.{Reply}
 use Rattle.meter.specs.declared.day.Reply.TheVariants as reply
 use Rattle.meter.specs.Ledgers.{Ledger, fresh, plan_verdict, packet_verdict, restart_verdict, planned, noted, restarted}
 use Rattle.meter.specs.Guarantees.{places_of, EstimateRight, ListRight}
-use Rattle.meter.specs.States.{State, plan_answer, plan_leaves, packet_answer, packet_leaves, estimate_answer, list_answer, restart_answer, restart_leaves}
 
 pub data Said : Type 0 where
   says_planned : Said
@@ -85,26 +78,3 @@ module _ {K : Type 0} (coded : K → Code) where
 
   abbrev pub Day : ℕ → List (Call K) → List Said → Type 0
   Day greatest = Runs (fresh greatest)
-
-  module _ {C : Type 0} (m : Meaning C) where
-    abbrev pub call_said : State m.Model → Call K → Said
-    call_said s (call.Plan q) = plan_said (plan_answer m s q)
-    call_said s (call.Packet k w) = packet_said (packet_answer m s (coded k) w)
-    call_said s (call.Estimate k) = estimate_said (estimate_answer m s (coded k))
-    call_said s (call.List level) = list_said (list_answer m s level least_scratch most_marks)
-    call_said s call.Restart = restart_said (restart_answer m s)
-
-    abbrev pub call_leaves : State m.Model → Call K → State m.Model
-    call_leaves s (call.Plan q) = plan_leaves m s q
-    call_leaves s (call.Packet k w) = packet_leaves m s (coded k) w
-    call_leaves s (call.Estimate k) = s
-    call_leaves s (call.List level) = s
-    call_leaves s call.Restart = restart_leaves m s
-
-    abbrev pub day_said : State m.Model → List (Call K) → List Said
-    day_said s [] = []
-    day_said s (c ∷ cs) = call_said s c ∷ day_said (call_leaves s c) cs
-
-    abbrev pub day_leaves : State m.Model → List (Call K) → State m.Model
-    day_leaves s [] = s
-    day_leaves s (c ∷ cs) = day_leaves (call_leaves s c) cs

@@ -4,4 +4,5 @@ pub mod States
 pub mod Meters
 pub mod Holding
 pub mod Days
+pub mod Sequences
 pub mod Tables

@@ -2,10 +2,11 @@
 ghost use Rattle.std.specs.Prelude.{◌≡◌, map, IfOk};
 ghost use Rattle.flow.specs.Limits.{least_scratch, most_marks};
 ghost use Rattle.meter.specs.Ledgers.{Ledger};
-ghost use Rattle.meter.specs.States.{list_answer};
+ghost use Rattle.meter.specs.States.{unplanned, list_answer};
 ghost use Rattle.meter.specs.Meters.{state_of};
 ghost use Rattle.meter.specs.Holding.{Holds};
-ghost use Rattle.meter.specs.Days.{said, call_said, call_leaves, Day};
+ghost use Rattle.meter.specs.Days.{said, Day};
+ghost use Rattle.meter.specs.Sequences.{call_said, call_leaves, day_said};
 ghost use Rattle.meter.specs.Tables.{told_list};
 
 use crate::meter::Meter;
@@ -78,12 +79,13 @@ impl<C: FrameCounter> Meter<C> {
 }
 
 // Makes a meter of the counter, makes the calls on it one after the other, and answers all of them.
-pub(crate) fn day<K: FlowKey, C: FrameCounter + Drop>(
+pub fn day<K: FlowKey, C: FrameCounter + Drop>(
     heap: Global,
     counter: C,
     calls: &[Call<K>],
 ) -> Result<Vec<Answered>, AllocError>
-    ensures { IfOk result (λ answers. Day K.coded (C.meaning.greatest (C.meaning.model counter)) calls.now (map said answers.items)) }
+    ensures guarantee { IfOk result (λ answers. Day K.coded (C.meaning.greatest (C.meaning.model counter)) calls.now (map said answers.items)) }
+    ensures answers { IfOk result (λ answers. map said answers.items ≡ day_said K.coded C.meaning (unplanned (C.meaning.model counter)) calls.now) }
 {
     let mut meter = Meter::new(counter);
     let mut answers = Vec::new(heap);

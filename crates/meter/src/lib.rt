@@ -1,6 +1,6 @@
 // The window meter: volumes of flows over the last packets, over any kind of key and any kind of counter.
 #![tactic(auto)]
 
-mod day;
+pub mod day;
 pub mod meter;
 pub mod record;

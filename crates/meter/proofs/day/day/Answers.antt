@@ -5,7 +5,8 @@ use Rattle.meter.specs.declared.day.Call.{Call}
 use Rattle.meter.specs.States.{State, unplanned}
 use Rattle.meter.specs.Meters.{state_of}
 use Rattle.meter.specs.Holding.{Holds}
-use Rattle.meter.specs.Days.{Said, said, step, Day, call_said, call_leaves, day_said, day_leaves}
+use Rattle.meter.specs.Days.{Said, said, step, Day}
+use Rattle.meter.specs.Sequences.{call_said, call_leaves, day_said, day_leaves}
 use Rattle.meter.proofs.Dailies.{call_holds, day_right, leaves_push, said-push}
 use Rattle.meter.proofs.day.day.Goals as goal
 
@@ -40,4 +41,7 @@ returns g c =
     let x = m.model c.args.counter in
     let cs = c.args.calls.now in
     let all = c.loop-call.invariant.told ∙ ap (day_said coded m (unplanned x)) (take_all c.loop-call.call-index cs (omega arith)) in
-    subst (λ (as' : List Said). Day coded (m.greatest x) cs as') (sym all) (day_right m met.opens met.flushes met.adds met.heavy coded x cs)
+    record {
+      guarantee = subst (λ (as' : List Said). Day coded (m.greatest x) cs as') (sym all) (day_right m met.opens met.flushes met.adds met.heavy coded x cs);
+      answers = all;
+    }

@@ -3,7 +3,8 @@ use Rattle.meter.specs.Ledgers.{Ledger}
 use Rattle.meter.specs.States.{unplanned}
 use Rattle.meter.specs.Meters.{state_of}
 use Rattle.meter.specs.Holding.{Holds}
-use Rattle.meter.specs.Days.{said, day_said, day_leaves}
+use Rattle.meter.specs.Days.{said}
+use Rattle.meter.specs.Sequences.{day_said, day_leaves}
 use Rattle.meter.proofs.day.day.Given as goal
 
 -- the calls so far were answered by the rules
