@@ -1,10 +1,12 @@
-// The two kinds together: ports, counted by a semi-ordered counter inside.
+// The two kinds together: ports, counted by a semi-ordered counter inside, and metered.
 use crate::peaked::Peaked;
 use crate::port::Port;
 use flow::code::Code;
 use flow::counter::FrameCounter;
 use flow::key::FlowKey;
 use flow::refusal::Refusal;
+use frame::plan::Plan;
+use meter::meter::Meter;
 use semi::SemiOrdered;
 use std::test::Fail;
 
@@ -57,4 +59,25 @@ fn peaks_nest(rt: HostRuntime) {
     assert_eq!(rt; outer.add(Code { high: 0, low: 53 }, 4).is_ok(), true);
     assert_eq!(rt; outer.volume(), 4);
     assert_eq!(rt; outer.into_inner().volume(), 4);
+}
+
+// Ports are metered over a window of four packets. The unit is 10 * 2 = 20, so a flow with no mark is estimated at 40 and more.
+#[test]
+fn ports_are_metered(rt: HostRuntime) -> Result<(), Fail> {
+    let domain = Port::read(&[0, 53])?;
+    let web = Port::read(&[0, 80])?;
+    let mut meter = Meter::new(Peaked::new(SemiOrdered::new()));
+    meter.plan(Plan {
+        places: 3,
+        step: 1,
+        most: 10,
+        window: 4,
+        blocks: 2,
+    })?;
+    meter.packet(&domain, 10)?;
+    meter.packet(&domain, 10)?;
+    assert_eq!(rt; meter.estimate(&domain)?, 60);
+    assert_eq!(rt; meter.estimate(&web)?, 40);
+    assert_eq!(rt; meter.packet(&web, 11).err().map(Refusal::number), Some(10));
+    Ok(())
 }
