@@ -1,1 +1,4 @@
+pub mod CounterSheets
+pub mod MeterSheets
 pub mod Sheets
+pub mod Runs

@@ -1,73 +1,9 @@
--- Worked sheets of the counters, as facts about the rules. Assumes nothing.
---   flow            the code of a flow of a sheet
---   A, B, C, E      such flows
---   SemiSheet       semi-ordered, two places, step 10: A 7 and B 25, then C 3, then C 30
---   SharedSheet     shared-deduction, two places: A 5, B 3 and C 4, then E 1
---   CounterSheets   both sheets
-use Rattle.std.specs.Prelude.{◌≡◌, false, [], ◌∷◌, ℕ}
-use Rattle.flow.specs.declared.code.Code.{Code}
-use Rattle.semi.specs.Line.{holds}
-use Rattle.shared.specs.Places.{holds as has_place}
-use Rattle.semi.specs.Semi.{SemiModel, semi_opened, semi_more, semi_meaning}
-use Rattle.shared.specs.Shared.{SharedModel, shared_opened, shared_more, shared_meaning}
+-- All worked sheets, as facts about the rules. Assumes nothing.
+--   Sheets   the sheets of both counters and of the meter
+use Rattle.sheets.specs.CounterSheets.{SemiSheet, SharedSheet}
+use Rattle.sheets.specs.MeterSheets.{MeterSheet}
 
-abbrev pub flow : ℕ → Code
-flow n = record { high = 0; low = n }
-
-abbrev pub A : Code
-A = flow 1
-
-abbrev pub B : Code
-B = flow 2
-
-abbrev pub C : Code
-C = flow 3
-
-abbrev pub E : Code
-E = flow 5
-
--- after A 7 and B 25
-abbrev pub semi_first : SemiModel
-semi_first = semi_more (semi_more (semi_opened 2 10) A 7) B 25
-
--- then C 3
-abbrev pub semi_second : SemiModel
-semi_second = semi_more semi_first C 3
-
--- then C 30
-abbrev pub semi_third : SemiModel
-semi_third = semi_more semi_second C 30
-
-pub record SemiSheet : Type 0 where
-  pub first_a : semi_meaning.estimate semi_first A ≡ 7
-  pub first_b : semi_meaning.estimate semi_first B ≡ 25
-  pub first_absent : (k : Code) → holds k semi_first.line ≡ false → semi_meaning.estimate semi_first k ≡ 9
-  pub second_passes : semi_meaning.passes semi_first C 3 ≡ 0
-  pub second_a_left : holds A semi_second.line ≡ false
-  pub second_c : semi_meaning.estimate semi_second C ≡ 12
-  pub second_a : semi_meaning.estimate semi_second A ≡ 19
-  pub third_passes : semi_meaning.passes semi_second C 30 ≡ 1
-  pub third_c : semi_meaning.estimate semi_third C ≡ 42
-  pub third_line : semi_third.line ≡ record { code = B; group = 2; remainder = 5 } ∷ record { code = C; group = 4; remainder = 2 } ∷ []
-
--- after A 5, B 3 and C 4
-abbrev pub shared_first : SharedModel
-shared_first = shared_more (shared_more (shared_more (shared_opened 2) A 5) B 3) C 4
-
--- then E 1
-abbrev pub shared_second : SharedModel
-shared_second = shared_more shared_first E 1
-
-pub record SharedSheet : Type 0 where
-  pub first_deduction : shared_first.deduction ≡ 3
-  pub first_a : shared_meaning.estimate shared_first A ≡ 5
-  pub first_b : shared_meaning.estimate shared_first B ≡ 3
-  pub first_c : shared_meaning.estimate shared_first C ≡ 4
-  pub second_deduction : shared_second.deduction ≡ 4
-  pub second_e_out : has_place E shared_second.held ≡ false
-  pub second_a : shared_meaning.estimate shared_second A ≡ 5
-  pub second_b : shared_meaning.estimate shared_second B ≡ 4
-
-pub record CounterSheets : Type 0 where
+pub record Sheets : Type 0 where
   pub semi : SemiSheet
   pub shared : SharedSheet
+  pub meter : MeterSheet

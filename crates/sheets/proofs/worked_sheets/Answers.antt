@@ -1,8 +1,11 @@
 use mathlib.Core.Path.{refl}
 use native.Mathlib.Omega.{arith}
-use Rattle.sheets.specs.Sheets.{SemiSheet, SharedSheet, semi_first}
+use Rattle.std.proofs.lemmas.Bool.Decides.{nat_tests}
+use Rattle.frame.specs.Plans.{block_of, unit_of}
 use Rattle.semi.specs.Estimates.{estimate_full}
 use Rattle.semi.proofs.Orders.{placed_last}
+use Rattle.sheets.specs.CounterSheets.{SemiSheet, SharedSheet, semi_first}
+use Rattle.sheets.specs.MeterSheets.{MeterSheet}
 use Rattle.sheets.proofs.worked_sheets.Goals as goal
 
 semi : SemiSheet
@@ -31,10 +34,35 @@ shared = record {
   second_b = refl;
 }
 
+meter : MeterSheet
+unfolding block_of unit_of
+meter = record {
+  step_one = refl;
+  step_five = refl;
+  step_six = refl;
+  unit = refl;
+  fresh = λ k. refl;
+  first_passes = refl;
+  first_a = refl;
+  second_passes = refl;
+  second_a = refl;
+  third_passes = refl;
+  third_a = refl;
+  fourth_passes = refl;
+  fourth_a = refl;
+  b_passes = refl;
+  then_a = refl;
+  then_b = refl;
+  level_60 = λ scratch table h h'. grind (arith, nat_tests);
+  level_61 = λ scratch table h. grind (arith, nat_tests);
+  level_59 = λ scratch table. refl;
+}
+
 pub returns : goal.returns
 returns c = record {
-  sheets_stand = record { semi = semi; shared = shared };
+  sheets_stand = record { semi = semi; shared = shared; meter = meter };
   placed_behind_the_last = placed_last;
   semi_ordered_runs = c.semi_sheet.ensures;
   shared_deduction_runs = c.shared_sheet.ensures;
+  meter_runs = c.meter_sheet.ensures;
 }

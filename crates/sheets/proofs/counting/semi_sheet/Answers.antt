@@ -1,8 +1,8 @@
 use mathlib.Core.Path.{◌≡◌, ap, ◌∙◌}
 use Rattle.flow.specs.Meanings.{open_leaves, add_leaves}
 use Rattle.semi.specs.Semi.{SemiModel, semi_meaning}
-use Rattle.sheets.specs.Sheets.{A, B, C, E}
-use Rattle.sheets.proofs.semi_sheet.Goals as goal
+use Rattle.sheets.specs.CounterSheets.{A, B, C, E}
+use Rattle.sheets.proofs.counting.semi_sheet.Goals as goal
 
 pub returns : goal.returns
 returns c =
@@ -11,10 +11,10 @@ returns c =
     let first = c.add-2.ensures.state ∙ ap (λ (x : SemiModel). add_leaves semi_meaning x B 25) one in
     let second = c.add-3.ensures.state ∙ ap (λ (x : SemiModel). add_leaves semi_meaning x C 3) first in
     let third = c.add_last.ensures ∙ ap (λ (x : SemiModel). add_leaves semi_meaning x C 30) second in
-    let a : c.estimate-a.result ≡ 7 = c.estimate-a.ensures ∙ ap (λ (x : SemiModel). semi_meaning.estimate x A) first in
-    let b : c.estimate-b.result ≡ 25 = c.estimate-b.ensures ∙ ap (λ (x : SemiModel). semi_meaning.estimate x B) first in
-    let absent : c.estimate-absent.result ≡ 9 = c.estimate-absent.ensures ∙ ap (λ (x : SemiModel). semi_meaning.estimate x E) first in
-    let d : c.estimate-c.result ≡ 12 = c.estimate-c.ensures ∙ ap (λ (x : SemiModel). semi_meaning.estimate x C) second in
-    let evicted : c.estimate-evicted.result ≡ 19 = c.estimate-evicted.ensures ∙ ap (λ (x : SemiModel). semi_meaning.estimate x A) second in
+    let a : c.estimate-first_a.result ≡ 7 = c.estimate-first_a.ensures ∙ ap (λ (x : SemiModel). semi_meaning.estimate x A) first in
+    let b : c.estimate-first_b.result ≡ 25 = c.estimate-first_b.ensures ∙ ap (λ (x : SemiModel). semi_meaning.estimate x B) first in
+    let absent : c.estimate-first_absent.result ≡ 9 = c.estimate-first_absent.ensures ∙ ap (λ (x : SemiModel). semi_meaning.estimate x E) first in
+    let d : c.estimate-second_c.result ≡ 12 = c.estimate-second_c.ensures ∙ ap (λ (x : SemiModel). semi_meaning.estimate x C) second in
+    let evicted : c.estimate-second_a.result ≡ 19 = c.estimate-second_a.ensures ∙ ap (λ (x : SemiModel). semi_meaning.estimate x A) second in
     let last : c.estimate.result ≡ 42 = c.estimate.ensures ∙ ap (λ (x : SemiModel). semi_meaning.estimate x C) third in
     cc
