@@ -1,34 +1,12 @@
-use Rattle.std.proofs.Common.{◌≡◌, ℕ, List, [], ◌∷◌, ap, ◌∙◌}
-use Rattle.flow.specs.Answers.{Answer, answered, told}
-use Rattle.flow.specs.Limits.{least_scratch}
-use Rattle.flow.specs.declared.code.Code.{Code}
+use Rattle.std.proofs.Common.{◌≡◌, ap, ◌∙◌}
+use Rattle.flow.specs.Answers.{answered, told}
 use Rattle.frame.specs.Plans.{block_of, unit_of}
 use Rattle.semi.specs.Semi.{SemiModel, semi_meaning}
-use Rattle.meter.specs.States.{State, unplanned, plan_leaves, packet_answer, packet_leaves, estimate_answer, list_answer, count_of, table_leaves}
-use Rattle.meter.specs.declared.record.Record.{Record}
+use Rattle.meter.specs.States.{State, unplanned, plan_leaves}
 use Rattle.sheets.specs.CounterSheets.{flow, A, B}
 use Rattle.sheets.specs.MeterSheets.{plan}
-use Rattle.sheets.specs.Runs.{blank}
+use Rattle.sheets.proofs.Steps.{estimated, passed, left, counted, tabled}
 use Rattle.sheets.proofs.metering.meter_sheet.Goals as goal
-
--- what an estimate of a known code is answered in a known state
-estimated : {s x : State SemiModel} {j k : Code} {r : Answer ℕ} → s ≡ x → j ≡ k → r ≡ estimate_answer semi_meaning s j → r ≡ estimate_answer semi_meaning x k
-estimated {s = s} {x = x} {j = j} h i e = e ∙ ap (λ (y : State SemiModel). estimate_answer semi_meaning y j) h ∙ ap (λ (y : Code). estimate_answer semi_meaning x y) i
-
--- what a packet of a known code is answered
-passed : {s x : State SemiModel} {j k : Code} {r : Answer ℕ} → s ≡ x → j ≡ k → r ≡ packet_answer semi_meaning s j 10 → r ≡ packet_answer semi_meaning x k 10
-passed {s = s} {x = x} {j = j} h i e = e ∙ ap (λ (y : State SemiModel). packet_answer semi_meaning y j 10) h ∙ ap (λ (y : Code). packet_answer semi_meaning x y 10) i
-
--- the state after it
-left : {s x : State SemiModel} {j k : Code} {t : State SemiModel} → s ≡ x → j ≡ k → t ≡ packet_leaves semi_meaning s j 10 → t ≡ packet_leaves semi_meaning x k 10
-left {s = s} {x = x} {j = j} h i e = e ∙ ap (λ (y : State SemiModel). packet_leaves semi_meaning y j 10) h ∙ ap (λ (y : Code). packet_leaves semi_meaning x y 10) i
-
--- what a list is answered in a known state: how many records, and the table then
-counted : {s x : State SemiModel} {r : Answer ℕ} (level : ℕ) → s ≡ x → r ≡ count_of (list_answer semi_meaning s level least_scratch 1) → r ≡ count_of (list_answer semi_meaning x level least_scratch 1)
-counted level h e = e ∙ ap (λ (y : State SemiModel). count_of (list_answer semi_meaning y level least_scratch 1)) h
-
-tabled : {s x : State SemiModel} {t : List Record} (level : ℕ) → s ≡ x → t ≡ table_leaves (list_answer semi_meaning s level least_scratch 1) (blank ∷ []) → t ≡ table_leaves (list_answer semi_meaning x level least_scratch 1) (blank ∷ [])
-tabled level h e = e ∙ ap (λ (y : State SemiModel). table_leaves (list_answer semi_meaning y level least_scratch 1) (blank ∷ [])) h
 
 pub returns : goal.returns
 unfolding block_of unit_of
@@ -38,15 +16,15 @@ returns c =
     let fresh = c.new-meter.ensures.state ∙ ap (λ (x : SemiModel). unplanned x) c.new.ensures.opened in
     let planned = c.plan.ensures.state ∙ ap (λ (x : State SemiModel). plan_leaves semi_meaning x plan) fresh in
     let held = c.plan.ensures.holds _ c.new-meter.ensures.holds in
-    let once = left planned a (c.packet-first.ensures.state _ held) in
+    let once = left _ planned a (c.packet-first.ensures.state _ held) in
     let held_once = c.packet-first.ensures.holds _ held in
-    let twice = left once a (c.packet-second.ensures.state _ held_once) in
+    let twice = left _ once a (c.packet-second.ensures.state _ held_once) in
     let held_twice = c.packet-second.ensures.holds _ held_once in
-    let thrice = left twice a (c.packet-third.ensures.state _ held_twice) in
+    let thrice = left _ twice a (c.packet-third.ensures.state _ held_twice) in
     let held_thrice = c.packet-third.ensures.holds _ held_twice in
-    let four_times = left thrice a (c.packet-fourth.ensures.state _ held_thrice) in
+    let four_times = left _ thrice a (c.packet-fourth.ensures.state _ held_thrice) in
     let held_four_times = c.packet-fourth.ensures.holds _ held_thrice in
-    let last = left four_times b (c.packet-fifth.ensures.state _ held_four_times) in
+    let last = left _ four_times b (c.packet-fifth.ensures.state _ held_four_times) in
     let fresh_a : told c.estimate.result ≡ answered 40 = estimated planned a c.estimate.ensures.answer in
     let fresh_b : told c.estimate-2.result ≡ answered 40 = estimated planned b c.estimate-2.ensures.answer in
     let once_a : told c.estimate-once.result ≡ answered 50 = estimated once a c.estimate-once.ensures.answer in
@@ -55,11 +33,11 @@ returns c =
     let four_times_a : told c.estimate-four_times.result ≡ answered 80 = estimated four_times a c.estimate-four_times.ensures.answer in
     let last_a : told c.estimate-3.result ≡ answered 60 = estimated last a c.estimate-3.ensures.answer in
     let last_b : told c.estimate-4.result ≡ answered 50 = estimated last b c.estimate-4.ensures.answer in
-    let first : told c.packet-first.result ≡ answered 0 = passed planned a (c.packet-first.ensures.answer _ held) in
-    let second : told c.packet-second.result ≡ answered 0 = passed once a (c.packet-second.ensures.answer _ held_once) in
-    let third : told c.packet-third.result ≡ answered 0 = passed twice a (c.packet-third.ensures.answer _ held_twice) in
-    let fourth : told c.packet-fourth.result ≡ answered 0 = passed thrice a (c.packet-fourth.ensures.answer _ held_thrice) in
-    let fifth : told c.packet-fifth.result ≡ answered 0 = passed four_times b (c.packet-fifth.ensures.answer _ held_four_times) in
+    let first : told c.packet-first.result ≡ answered 0 = passed _ planned a (c.packet-first.ensures.answer _ held) in
+    let second : told c.packet-second.result ≡ answered 0 = passed _ once a (c.packet-second.ensures.answer _ held_once) in
+    let third : told c.packet-third.result ≡ answered 0 = passed _ twice a (c.packet-third.ensures.answer _ held_twice) in
+    let fourth : told c.packet-fourth.result ≡ answered 0 = passed _ thrice a (c.packet-fourth.ensures.answer _ held_thrice) in
+    let fifth : told c.packet-fifth.result ≡ answered 0 = passed _ four_times b (c.packet-fifth.ensures.answer _ held_four_times) in
     record {
       step_five = c.plan_with_step.ensures;
       step_six = c.plan_with_step-2.ensures;
