@@ -13,15 +13,7 @@ use flow::refusal::Refusal;
 use frame::plan::Plan;
 use meter::meter::Meter;
 use semi::SemiOrdered;
-
-// The plan of the meter's sheet.
-pub(crate) const PLAN: Plan = Plan {
-    places: 3,
-    step: 1,
-    most: 10,
-    window: 4,
-    blocks: 2,
-};
+use sheets::metering::PLAN;
 
 // What a plan is answered.
 pub(crate) fn plan(plan: Plan) -> Result<(), Refusal>

@@ -8,11 +8,12 @@ ghost use Rattle.answers.specs.declared.comparison.Comparison.{Comparison as Com
 mod calls;
 mod comparison;
 
-use crate::calls::{PLAN, packet, plan};
+use crate::calls::{packet, plan};
 use crate::comparison::{Comparison, Verdict};
 use flow::key::FlowKey;
 use flow::prefix::Prefix;
 use frame::plan::Plan;
+use sheets::metering::PLAN;
 
 // The lines of the sheets, each run.
 fn comparisons() -> [Comparison; 5]

@@ -19,7 +19,7 @@ use meter::record::Record;
 use semi::SemiOrdered;
 
 // The plan of the sheet.
-const PLAN: Plan = Plan {
+pub const PLAN: Plan = Plan {
     places: 3,
     step: 1,
     most: 10,
