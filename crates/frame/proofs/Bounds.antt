@@ -60,7 +60,3 @@ module _ {z : Plan} {present behind : List Packet} {older newer : List Mark} {e 
       go : (m : ℕ) → marks_of k (older ++ newer) ≡ m → 1 ≤ m
       go zero h = absurd (omega (arith, estimate_low, ap (λ m. t * (m + 2)) h, mod-lt (e k) (unit_some z win.fair)))
       go (suc m) h = omega arith
-
-  -- a listed flow is less than 4 T below the level
-  pub listed_heavy : (level : ℕ) → level ≤ flow_estimate t (marks_of k (older ++ newer)) (e k) → level < true_volume z.window k (present ++ behind) + 4 * t
-  listed_heavy level listed = omega (arith, estimate_high)

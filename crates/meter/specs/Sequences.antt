@@ -3,7 +3,7 @@
 --   call_leaves   the state after a call
 --   day_said      what the calls of a list are told, one after the other
 --   day_leaves    the state after them
-use Rattle.std.specs.Prelude.{ℕ, List, [], ◌∷◌}
+use Rattle.std.specs.Prelude.{List, [], ◌∷◌}
 use Rattle.flow.specs.Limits.{least_scratch, most_marks}
 use Rattle.flow.specs.Meanings.{Meaning}
 use Rattle.flow.specs.declared.code.Code.{Code}
