@@ -1,0 +1,4 @@
+pub mod Draws
+pub mod Runs
+pub mod Streams
+pub mod Words

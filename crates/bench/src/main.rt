@@ -1,0 +1,38 @@
+// Meters a made stream of packets, and prints what was done.
+#![tactic(auto)]
+
+mod arguments;
+mod generator;
+mod run;
+mod stream;
+
+use crate::arguments::{Arguments, Kind};
+use crate::run::perform_and_show;
+use semi::SemiOrdered;
+use shared::SharedDeduction;
+use std::{env, io};
+
+// What is printed where the arguments cannot be read.
+const USAGE: &str =
+    "Usage: bench PLACES STEP MOST WINDOW BLOCKS PACKETS FLOWS SEED [KIND]\nThe first eight are whole numbers. KIND is semi-ordered, as without it, or shared-deduction.";
+
+// Does the run that the arguments ask for.
+fn work(rt: &HostRuntime, arguments: &Arguments) -> io::Result<()> {
+    println!(rt; "Counter: {}", arguments.kind)?;
+    match arguments.kind {
+        Kind::SemiOrdered => perform_and_show(rt, SemiOrdered::new(), arguments),
+        Kind::SharedDeduction => perform_and_show(rt, SharedDeduction::new(), arguments),
+    }
+}
+
+fn main(rt: HostRuntime) -> anyhow::Result<()> {
+    let mut words = Vec::new(rt.alloc());
+    for word in env::args(&rt)?.skip(1) {
+        words.push(word)?;
+    }
+    match Arguments::read(&words) {
+        Some(arguments) => work(&rt, &arguments)?,
+        None => println!(rt; "{USAGE}")?,
+    }
+    Ok(())
+}
