@@ -8,9 +8,17 @@ mod stream;
 
 use crate::arguments::{Arguments, Kind};
 use crate::run::perform_and_show;
+use meter::meter::Meter;
 use semi::SemiOrdered;
 use shared::SharedDeduction;
 use std::{env, io};
+
+// The most memory that a meter takes, whatever its window.
+const MOST_BYTES: usize = 32 * 1024;
+
+const _: () = prove!(size_of::<Meter<SemiOrdered>>() <= MOST_BYTES);
+
+const _: () = prove!(size_of::<Meter<SharedDeduction>>() <= MOST_BYTES);
 
 // What is printed where the arguments cannot be read.
 const USAGE: &str =
