@@ -1,5 +1,5 @@
 // A run: a plan, the packets of a stream, and the estimates of the first flows.
-ghost use Rattle.std.specs.Prelude.{◌≡◌, ◌+◌, ◌-◌, ◌^◌};
+ghost use Rattle.std.specs.Prelude.{◌≡◌};
 ghost use Rattle.flow.specs.Answers.{told};
 ghost use Rattle.meter.specs.Ledgers.{Ledger};
 ghost use Rattle.meter.specs.Meters.{state_of};
