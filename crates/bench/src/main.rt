@@ -11,6 +11,7 @@ use crate::run::perform_and_show;
 use meter::meter::Meter;
 use semi::SemiOrdered;
 use shared::SharedDeduction;
+use std::alloc::AllocError;
 use std::{env, io};
 
 // The most memory that a meter takes, whatever its window.
@@ -33,12 +34,20 @@ fn work(rt: &HostRuntime, arguments: &Arguments) -> io::Result<()> {
     }
 }
 
-fn main(rt: HostRuntime) -> anyhow::Result<()> {
+// The arguments that the program was given, where they can be read.
+fn given(rt: &HostRuntime) -> Result<Option<Arguments>, AllocError> {
+    let Ok(all) = env::args(rt) else {
+        return Ok(None);
+    };
     let mut words = Vec::new(rt.alloc());
-    for word in env::args(&rt)?.skip(1) {
+    for word in all.skip(1) {
         words.push(word)?;
     }
-    match Arguments::read(&words) {
+    Ok(Arguments::read(&words))
+}
+
+fn main(rt: HostRuntime) -> anyhow::Result<()> {
+    match given(&rt)? {
         Some(arguments) => work(&rt, &arguments)?,
         None => println!(rt; "{USAGE}")?,
     }
