@@ -10,7 +10,11 @@
 --   unspaced     the text without the spaces in front
 --   word_of      the first word, empty where there is none
 --   after_word   what follows the first word
-use Rattle.std.specs.Prelude.{◌≡◌, ◌≢◌, ℕ, ◌+◌, Bool, not, ◌||◌, List, [], take, drop, Option, Some, None, ◌==◌}
+--   first        the first word of a line, empty where there is none
+--   second       the second
+--   third        the third
+--   small        a number, or the greatest of 32 bits where it is larger
+use Rattle.std.specs.Prelude.{◌≡◌, ◌≢◌, ℕ, ◌+◌, ◌-◌, ◌^◌, min, Bool, not, ◌||◌, List, [], take, drop, Option, Some, None, ◌==◌}
 use Rattle.std.specs.List.{prefix_len}
 
 abbrev pub is_space : ℕ → Bool
@@ -47,3 +51,15 @@ word_of bs = take (front in_word (unspaced bs)) (unspaced bs)
 
 abbrev pub after_word : List ℕ → List ℕ
 after_word bs = drop (front in_word (unspaced bs)) (unspaced bs)
+
+abbrev pub first : List ℕ → List ℕ
+first line = word_of line
+
+abbrev pub second : List ℕ → List ℕ
+second line = word_of (after_word line)
+
+abbrev pub third : List ℕ → List ℕ
+third line = word_of (after_word (after_word line))
+
+abbrev pub small : ℕ → ℕ
+small n = min n (2 ^ 32 - 1)

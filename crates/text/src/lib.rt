@@ -1,11 +1,11 @@
 // Lines, words and numbers of a text input.
 #![tactic(auto)]
 
-ghost use Rattle.std.specs.Prelude.{◌≡◌, ℕ, Bool, ◌+◌, take, drop, ◌-◌, ◌*◌, ◌^◌, length, min, MatchOption};
+ghost use Rattle.std.specs.Prelude.{◌≡◌, ℕ, Bool, ◌+◌, take, drop, ◌-◌, ◌*◌, ◌^◌, [], length, min, MatchBool, MatchOption, ◌≢◌};
 ghost use Rattle.std.specs.Iterator.{at_most};
 ghost use Rattle.std.specs.Option.{option_copied};
 ghost use Rattle.std.specs.Str.Parse.{digits_value, IsNumeral};
-ghost use Rattle.text.specs.Reading.{is_space, in_line, Tells, front, line_of, after_line, TakesLine, word_of, after_word};
+ghost use Rattle.text.specs.Reading.{is_space, in_line, Tells, front, line_of, after_line, TakesLine, word_of, after_word, small};
 
 const NEWLINE: u8 = b'\n';
 
@@ -85,6 +85,13 @@ pub fn next_word(line: &[u8]) -> (&[u8], &[u8])
     split_front(rest, |b| !is_space(b))
 }
 
+// Whether the line has no word.
+pub fn is_blank(line: &[u8]) -> bool
+    ensures { MatchBool result (word_of line.now ≡ []) (word_of line.now ≢ []) }
+{
+    next_word(line).0.is_empty()
+}
+
 // The number with one more digit behind it, or the greatest of its type where that is larger.
 fn with_digit(n: u64, digit: u8) -> u64
     ensures { result ≡ min (min (n * 10) (2 ^ 64 - 1) + digit) (2 ^ 64 - 1) }
@@ -108,4 +115,12 @@ pub fn number(word: &[u8]) -> Option<u64>
         n = with_digit(n, *b - b'0');
     }
     Some(n)
+}
+
+// The number that a word of digits writes, or the greatest of 32 bits where it is larger. None for any other word.
+pub fn small_number(word: &[u8]) -> Option<u32>
+    ensures { MatchOption result (IsNumeral 10 word.now → ⊥) (λ n. IsNumeral 10 word.now × (n ≡ small (digits_value 10 word.now))) }
+{
+    let n = number(word)?;
+    Some(u32::try_from(n).unwrap_or(u32::MAX))
 }

@@ -1,18 +1,14 @@
 -- The lines of an input. Assumes nothing.
---   first         the first word of a line, empty where there is none
---   second        the second
---   third         the third
 --   IsName        a word that names a flow: one to ten digits
---   small         a number, or the greatest of 32 bits where it is larger
 --   PacketRead    what a packet line is read as: its packet, or the first thing that is wrong with it
 --   KindRead      the kind that a word names
 --   Sized         a line of two whole numbers and no more
 --   SizesRead     the two numbers of such a line
 --   HeadingRead   what a line is read as where it may be a heading: the kind that it begins with, and the sizes behind it; none where it begins with no kind
 --   reason        why a line is no packet, or has no sizes behind its kind, in words
-use Rattle.std.specs.Prelude.{◌≡◌, ℕ, ◌-◌, ◌^◌, ◌≤◌, min, List, [], length, Some, None, Ok, Err, codes, Option, Result, ◌≢◌}
+use Rattle.std.specs.Prelude.{◌≡◌, ℕ, ◌≤◌, List, [], length, Some, None, Ok, Err, codes, Option, Result, ◌≢◌}
 use Rattle.std.specs.Str.Parse.{digits_value, IsNumeral}
-use Rattle.text.specs.Reading.{word_of, after_word}
+use Rattle.text.specs.Reading.{after_word, first, second, third, small}
 use Rattle.worksheet.specs.declared.line.Kind.{Kind}
 use Rattle.worksheet.specs.declared.line.Kind.TheVariants.{SemiOrdered, SharedDeduction}
 use Rattle.worksheet.specs.declared.line.Sizes.{Sizes}
@@ -21,20 +17,8 @@ use Rattle.worksheet.specs.declared.line.Packet.{Packet}
 use Rattle.worksheet.specs.declared.line.Unread.{Unread}
 use Rattle.worksheet.specs.declared.line.Unread.TheVariants.{Name, Weight, More, Heading as Headed}
 
-abbrev pub first : List ℕ → List ℕ
-first line = word_of line
-
-abbrev pub second : List ℕ → List ℕ
-second line = word_of (after_word line)
-
-abbrev pub third : List ℕ → List ℕ
-third line = word_of (after_word (after_word line))
-
 abbrev pub IsName : List ℕ → Type 0
 IsName word = IsNumeral 10 word × (length word ≤ 10)
-
-abbrev pub small : ℕ → ℕ
-small n = min n (2 ^ 32 - 1)
 
 abbrev pub PacketRead : List ℕ → Result Packet Unread → Type 0
 PacketRead line (Ok p) =

@@ -1,15 +1,14 @@
 // The lines of an input: a heading, then a packet on each line.
-ghost use Rattle.std.specs.Prelude.{◌≡◌, [], Some, MatchBool, MatchOption, ◌≢◌};
+ghost use Rattle.std.specs.Prelude.{◌≡◌, Some, MatchOption};
 ghost use Rattle.std.specs.Str.Parse.{digits_value, IsNumeral};
-ghost use Rattle.text.specs.Reading.{word_of};
-ghost use Rattle.worksheet.specs.Lines.{IsName, small, PacketRead, KindRead, SizesRead, HeadingRead, reason};
+ghost use Rattle.worksheet.specs.Lines.{IsName, PacketRead, KindRead, SizesRead, HeadingRead, reason};
 
 use flow::account::Account;
 use flow::code::Code;
 use flow::key::FlowKey;
 use std::error::Error;
 use std::fmt;
-use text::{next_word, number};
+use text::{is_blank, next_word, number, small_number};
 
 // The most digits of a flow name.
 const NAME_DIGITS: usize = Account::BYTES;
@@ -136,21 +135,6 @@ impl Packet {
             weight,
         })
     }
-}
-
-// Whether the line has no word.
-pub(crate) fn is_blank(line: &[u8]) -> bool
-    ensures { MatchBool result (word_of line.now ≡ []) (word_of line.now ≢ []) }
-{
-    next_word(line).0.is_empty()
-}
-
-// The number that a word writes, or the greatest of its type where it is larger: no limit of a counter lies above that.
-fn small_number(word: &[u8]) -> Option<u32>
-    ensures { MatchOption result (IsNumeral 10 word.now → ⊥) (λ n. IsNumeral 10 word.now × (n ≡ small (digits_value 10 word.now))) }
-{
-    let n = number(word)?;
-    Some(u32::try_from(n).unwrap_or(u32::MAX))
 }
 
 // The account that one to ten digits name.

@@ -3,7 +3,7 @@ ghost use Rattle.std.specs.Prelude.{◌≡◌, Some};
 ghost use Rattle.worksheet.specs.declared.sheet.Failure.TheVariants.{Unread as NotRead, Refused as IsRefused};
 ghost use Rattle.worksheet.specs.Failures.{failure_text};
 
-use crate::line::{Heading, Kind, Packet, Sizes, Unread, is_blank};
+use crate::line::{Heading, Kind, Packet, Sizes, Unread};
 use crate::totals::Totals;
 use crate::worked::Worked;
 use flow::counter::FrameCounter;
@@ -12,6 +12,7 @@ use semi::SemiOrdered;
 use shared::SharedDeduction;
 use std::error::Error;
 use std::{fmt, io};
+use text::is_blank;
 
 // Why a line is not worked.
 #[derive(Debug, Clone, Copy, PartialEq, Eq)]
