@@ -1,0 +1,43 @@
+-- What is printed of headings, calls and replies, in words. Assumes nothing.
+--   keys_text      a kind of key
+--   counter_text   a kind of counter
+--   plan_text      the numbers of a plan
+--   asked_text     a call
+--   reply_text     what a meter replies to a call; of a list how many flows it has
+use Rattle.std.specs.Prelude.{ℕ, List, ◌++◌, codes, vec_len}
+use Rattle.std.specs.Fmt.{decimal}
+use Rattle.frame.specs.declared.plan.Plan.{Plan}
+use Rattle.meter.specs.declared.day.Call.{Call}
+use Rattle.meter.specs.declared.day.Call.TheVariants as call
+use Rattle.meter.specs.declared.day.Reply.{Reply}
+use Rattle.meter.specs.declared.day.Reply.TheVariants as reply
+use Rattle.window.specs.declared.heading.KeyKind.{KeyKind}
+use Rattle.window.specs.declared.heading.KeyKind.TheVariants as keys
+use Rattle.window.specs.declared.heading.CounterKind.{CounterKind}
+use Rattle.window.specs.declared.heading.CounterKind.TheVariants as counter
+
+abbrev pub keys_text : KeyKind → List ℕ
+keys_text keys.Prefix = codes "prefix"
+keys_text keys.Account = codes "account"
+
+abbrev pub counter_text : CounterKind → List ℕ
+counter_text counter.SemiOrdered = codes "semi-ordered"
+counter_text counter.SharedDeduction = codes "shared-deduction"
+
+abbrev pub plan_text : Plan → List ℕ
+plan_text p = codes "Plan of places " ++ decimal p.places ++ codes ", step " ++ decimal p.step ++ codes ", greatest weight " ++ decimal p.most
+    ++ codes ", window " ++ decimal p.window ++ codes ", blocks " ++ decimal p.blocks
+
+abbrev pub asked_text : {K : Type 0} → (K → List ℕ) → Call K → List ℕ
+asked_text text_of (call.Plan p) = plan_text p
+asked_text text_of (call.Packet k w) = codes "Packet " ++ text_of k ++ codes ", weight " ++ decimal w
+asked_text text_of (call.Estimate k) = codes "Estimate of " ++ text_of k
+asked_text text_of (call.List level) = codes "List at level " ++ decimal level
+asked_text text_of call.Restart = codes "Restart"
+
+abbrev pub reply_text : Reply → List ℕ
+reply_text reply.Planned = codes "accepted"
+reply_text (reply.Took x) = codes "passes " ++ decimal x
+reply_text (reply.Estimated e) = decimal e
+reply_text (reply.Listed v) = codes "flows " ++ decimal (vec_len v)
+reply_text reply.Restarted = codes "done"
