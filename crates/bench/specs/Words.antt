@@ -4,21 +4,17 @@
 --   NumbersGiven   the eight numbers that words give: the plan's, and the packets, the flows and the seed
 --   Given          the arguments that words give: eight numbers, and a kind where there is a ninth
 --   ArgumentsRead  what words are read as: the arguments that they give, or none where they give none
---   kind_text      the name of a kind
-use Rattle.std.specs.Prelude.{◌≡◌, ℕ, ◌-◌, ◌^◌, min, List, [], ◌∷◌, Some, None, Option, codes}
+use Rattle.std.specs.Prelude.{◌≡◌, ℕ, ◌-◌, ◌^◌, min, List, [], ◌∷◌, Some, None, Option}
 use Rattle.std.specs.Str.Parse.{digits_value, IsNumeral}
-use Rattle.bench.specs.declared.arguments.Kind.{Kind}
-use Rattle.bench.specs.declared.arguments.Kind.TheVariants.{SemiOrdered, SharedDeduction}
+use Rattle.inputs.specs.Kinds.{kind_text}
+use Rattle.inputs.specs.declared.kind.CounterKind.{CounterKind}
+use Rattle.inputs.specs.declared.kind.CounterKind.TheVariants.{SemiOrdered}
 use Rattle.bench.specs.declared.arguments.Arguments.{Arguments}
 
 abbrev pub Writes : ℕ → List ℕ → ℕ → Type 0
 Writes bits word n = IsNumeral 10 word × (n ≡ min (digits_value 10 word) (2 ^ bits - 1))
 
-abbrev pub kind_text : Kind → List ℕ
-kind_text SemiOrdered = codes "semi-ordered"
-kind_text SharedDeduction = codes "shared-deduction"
-
-abbrev pub KindGiven : List (List ℕ) → Kind → Type 0
+abbrev pub KindGiven : List (List ℕ) → CounterKind → Type 0
 KindGiven [] k = k ≡ SemiOrdered
 KindGiven (word ∷ []) k = word ≡ kind_text k
 KindGiven (word ∷ more ∷ words) k = ⊥

@@ -6,20 +6,21 @@ mod generator;
 mod run;
 mod stream;
 
-use crate::arguments::{Arguments, Kind};
+use crate::arguments::Arguments;
 use crate::run::perform_and_show;
+use inputs::kind::CounterKind;
 use meter::meter::Meter;
 use semi::SemiOrdered;
 use shared::SharedDeduction;
 use std::alloc::AllocError;
 use std::{env, io};
 
-// The most memory that a meter takes, whatever its window.
-const MOST_BYTES: usize = 32 * 1024;
+// The bytes that a meter stays below, whatever its window.
+const METER_BYTES: usize = 32 * 1024;
 
-const _: () = prove!(size_of::<Meter<SemiOrdered>>() <= MOST_BYTES);
+const _: () = prove!(size_of::<Meter<SemiOrdered>>() < METER_BYTES);
 
-const _: () = prove!(size_of::<Meter<SharedDeduction>>() <= MOST_BYTES);
+const _: () = prove!(size_of::<Meter<SharedDeduction>>() < METER_BYTES);
 
 // What is printed where the arguments cannot be read.
 const USAGE: &str =
@@ -29,8 +30,8 @@ const USAGE: &str =
 fn work(rt: &HostRuntime, arguments: &Arguments) -> io::Result<()> {
     println!(rt; "Counter: {}", arguments.kind)?;
     match arguments.kind {
-        Kind::SemiOrdered => perform_and_show(rt, SemiOrdered::new(), arguments),
-        Kind::SharedDeduction => perform_and_show(rt, SharedDeduction::new(), arguments),
+        CounterKind::SemiOrdered => perform_and_show(rt, SemiOrdered::new(), arguments),
+        CounterKind::SharedDeduction => perform_and_show(rt, SharedDeduction::new(), arguments),
     }
 }
 

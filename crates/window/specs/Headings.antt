@@ -3,7 +3,6 @@
 --   nth            the word that comes next, empty where there is none
 --   value_at       the number that it writes, or the greatest of 32 bits where it is larger
 --   KeysRead       the kind of key that a word names
---   CounterRead    the kind of counter that a word names
 --   Numbers        a line begins with five whole numbers
 --   plan_of        the plan that they are: places, step, greatest weight, window and blocks
 --   PlanRead       what a line is read as where it may begin with a plan: the plan and what follows it
@@ -17,8 +16,7 @@ use Rattle.text.specs.Reading.{word_of, after_word, first, small}
 use Rattle.frame.specs.declared.plan.Plan.{Plan}
 use Rattle.window.specs.declared.heading.KeyKind.{KeyKind}
 use Rattle.window.specs.declared.heading.KeyKind.TheVariants.{Prefix, Account}
-use Rattle.window.specs.declared.heading.CounterKind.{CounterKind}
-use Rattle.window.specs.declared.heading.CounterKind.TheVariants.{SemiOrdered, SharedDeduction}
+use Rattle.inputs.specs.Kinds.{KindRead}
 use Rattle.window.specs.declared.heading.Asks.{Asks}
 use Rattle.window.specs.declared.heading.Heading.{Heading}
 
@@ -36,11 +34,6 @@ abbrev pub KeysRead : List ℕ → Option KeyKind → Type 0
 KeysRead word (Some Prefix) = word ≡ codes "prefix"
 KeysRead word (Some Account) = word ≡ codes "account"
 KeysRead word None = (word ≢ codes "prefix") × (word ≢ codes "account")
-
-abbrev pub CounterRead : List ℕ → Option CounterKind → Type 0
-CounterRead word (Some SemiOrdered) = word ≡ codes "semi-ordered"
-CounterRead word (Some SharedDeduction) = word ≡ codes "shared-deduction"
-CounterRead word None = (word ≢ codes "semi-ordered") × (word ≢ codes "shared-deduction")
 
 pub record Numbers (line : List ℕ) : Type 0 where
   pub places : IsNumeral 10 (nth 0 line)
@@ -63,13 +56,13 @@ PlanRead line (Some p) = Numbers line × (p.0 ≡ plan_of line) × (p.1.now ≡ 
 PlanRead line None = Numbers line → ⊥
 
 pub record Complete (line : List ℕ) : Type 0 where
-  pub counter : CounterRead (nth 0 line) None → ⊥
+  pub counter : KindRead (nth 0 line) None → ⊥
   pub numbers : Numbers (behind 1 line)
   pub level : IsNumeral 10 (nth 6 line)
   pub ends : nth 7 line ≡ []
 
 abbrev pub AsksRead : List ℕ → Option Asks → Type 0
-AsksRead line (Some a) = Complete line × CounterRead (nth 0 line) (Some a.counter) × (a.plan ≡ plan_of (behind 1 line)) × (a.level ≡ min (digits_value 10 (nth 6 line)) (2 ^ 64 - 1))
+AsksRead line (Some a) = Complete line × KindRead (nth 0 line) (Some a.counter) × (a.plan ≡ plan_of (behind 1 line)) × (a.level ≡ min (digits_value 10 (nth 6 line)) (2 ^ 64 - 1))
 AsksRead line None = Complete line → ⊥
 
 abbrev pub HeadingRead : List ℕ → Option Heading → Type 0

@@ -16,8 +16,8 @@ use Rattle.window.specs.declared.line.Form.{Form}
 use Rattle.window.specs.declared.line.Form.TheVariants as form
 use Rattle.window.specs.declared.line.Unread.{Unread}
 use Rattle.window.specs.declared.line.Unread.TheVariants as unread
-use Rattle.window.specs.declared.line.Failure.{Failure}
-use Rattle.window.specs.declared.line.Failure.TheVariants as failure
+use Rattle.inputs.specs.declared.failure.Failure.{Failure}
+use Rattle.inputs.specs.declared.failure.Failure.TheVariants as failure
 
 abbrev pub FormRead : List ℕ → Form → Type 0
 FormRead word form.List = word ≡ codes "list"
@@ -35,14 +35,14 @@ module _ {K : Type 0} (text_of : K → List ℕ) where
   abbrev pub Written : List ℕ → Type 0
   Written word = (k : K) × (text_of k ≡ word)
 
-  abbrev pub EstimateRead : List ℕ → Result (Call K) Failure → Type 0
+  abbrev pub EstimateRead : List ℕ → Result (Call K) (Failure Unread) → Type 0
   EstimateRead rest (Ok (call.Estimate k)) = (text_of k ≡ first rest) × (second rest ≡ [])
   EstimateRead rest (Ok c) = ⊥
   EstimateRead rest (Err (failure.Refused e)) = (number e ≡ 14) × ((k : K) → text_of k ≡ first rest → ⊥)
   EstimateRead rest (Err (failure.Unread unread.More)) = Written (first rest) × (second rest ≢ [])
   EstimateRead rest (Err (failure.Unread e)) = ⊥
 
-  abbrev pub PacketRead : List ℕ → Result (Call K) Failure → Type 0
+  abbrev pub PacketRead : List ℕ → Result (Call K) (Failure Unread) → Type 0
   PacketRead line (Ok (call.Packet k w)) = (text_of k ≡ first line) × IsNumeral 10 (second line) × (w ≡ small (digits_value 10 (second line))) × (third line ≡ [])
   PacketRead line (Ok c) = ⊥
   PacketRead line (Err (failure.Refused e)) = (number e ≡ 14) × ((k : K) → text_of k ≡ first line → ⊥)
@@ -51,20 +51,20 @@ module _ {K : Type 0} (text_of : K → List ℕ) where
   PacketRead line (Err (failure.Unread unread.Heading)) = ⊥
 
   -- a line that is one word: the call that it asks for, unless there is more on the line
-  abbrev pub BareRead : List ℕ → Call K → Result (Call K) Failure → Type 0
+  abbrev pub BareRead : List ℕ → Call K → Result (Call K) (Failure Unread) → Type 0
   BareRead rest c (Ok d) = (d ≡ c) × (word_of rest ≡ [])
   BareRead rest c (Err (failure.Unread unread.More)) = word_of rest ≢ []
   BareRead rest c (Err e) = ⊥
 
-  abbrev pub ReadAs : ℕ → List ℕ → Form → Result (Call K) Failure → Type 0
+  abbrev pub ReadAs : ℕ → List ℕ → Form → Result (Call K) (Failure Unread) → Type 0
   ReadAs level line form.List r = BareRead (after_word line) (call.List level) r
   ReadAs level line form.Restart r = BareRead (after_word line) call.Restart r
   ReadAs level line form.Estimate r = EstimateRead (after_word line) r
   ReadAs level line form.Packet r = PacketRead line r
 
-  abbrev pub CallRead : ℕ → List ℕ → Result (Call K) Failure → Type 0
+  abbrev pub CallRead : ℕ → List ℕ → Result (Call K) (Failure Unread) → Type 0
   CallRead level line r = (f : Form) × FormRead (first line) f × ReadAs level line f r
 
-  abbrev pub LineRead : ℕ → List ℕ → Option (Result (Call K) Failure) → Type 0
+  abbrev pub LineRead : ℕ → List ℕ → Option (Result (Call K) (Failure Unread)) → Type 0
   LineRead level line None = word_of line ≡ []
   LineRead level line (Some r) = (word_of line ≢ []) × CallRead level line r

@@ -23,9 +23,10 @@ use Rattle.frame.specs.declared.layout.Layout.{Layout}
 use Rattle.meter.specs.declared.day.Call.{Call}
 use Rattle.meter.specs.declared.day.Call.TheVariants as call
 use Rattle.window.specs.declared.heading.Asks.{Asks}
-use Rattle.window.specs.declared.heading.CounterKind.{CounterKind}
-use Rattle.window.specs.declared.heading.CounterKind.TheVariants as kind
-use Rattle.window.specs.declared.line.Failure.{Failure}
+use Rattle.inputs.specs.declared.failure.Failure.{Failure}
+use Rattle.inputs.specs.declared.kind.CounterKind.{CounterKind}
+use Rattle.inputs.specs.declared.kind.CounterKind.TheVariants as kind
+use Rattle.window.specs.declared.line.Unread.{Unread}
 use Rattle.window.specs.declared.log.Note.{Note}
 use Rattle.window.specs.declared.log.Note.TheVariants as note
 use Rattle.window.specs.Lines.{LineRead}
@@ -38,12 +39,12 @@ abbrev pub planned : {K : Type 0} → Option Asks → List (Call K)
 planned None = []
 planned (Some a) = call.Plan a.plan ∷ []
 
-abbrev pub asked : {K : Type 0} → Option (Result (Call K) Failure) → List (Call K)
+abbrev pub asked : {K : Type 0} → Option (Result (Call K) (Failure Unread)) → List (Call K)
 asked None = []
 asked (Some (Ok c)) = c ∷ []
 asked (Some (Err e)) = []
 
-abbrev pub note_of : {K : Type 0} → Option (Result (Call K) Failure) → Note
+abbrev pub note_of : {K : Type 0} → Option (Result (Call K) (Failure Unread)) → Note
 note_of None = note.Blank
 note_of (Some (Ok c)) = note.Call
 note_of (Some (Err e)) = note.Wrong e
@@ -51,7 +52,7 @@ note_of (Some (Err e)) = note.Wrong e
 module _ {K : Type 0} (text_of : K → List ℕ) where
   -- what a line adds to the calls and the notes
   abbrev pub LineTaken : ℕ → List ℕ → List (Call K) → List Note → List (Call K) → List Note → Type 0
-  LineTaken level line cs ns ds ms = (r : Option (Result (Call K) Failure)) × LineRead text_of level line r × (ds ≡ cs ++ asked r) × (ms ≡ ns ++ note_of r ∷ [])
+  LineTaken level line cs ns ds ms = (r : Option (Result (Call K) (Failure Unread))) × LineRead text_of level line r × (ds ≡ cs ++ asked r) × (ms ≡ ns ++ note_of r ∷ [])
 
   pub data LinesRead (asks : Option Asks) : List (List ℕ) → List (Call K) → List Note → Type 0 where
     none : LinesRead asks [] (planned asks) []

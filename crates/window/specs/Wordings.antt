@@ -1,6 +1,5 @@
--- What is printed of headings, calls and replies, in words. Assumes nothing.
+-- What is printed of kinds of key, calls and replies, in words. Assumes nothing.
 --   keys_text      a kind of key
---   counter_text   a kind of counter
 --   plan_text      the numbers of a plan
 --   asked_text     a call
 --   reply_text     what a meter replies to a call; of a list how many flows it has
@@ -13,16 +12,10 @@ use Rattle.meter.specs.declared.day.Reply.{Reply}
 use Rattle.meter.specs.declared.day.Reply.TheVariants as reply
 use Rattle.window.specs.declared.heading.KeyKind.{KeyKind}
 use Rattle.window.specs.declared.heading.KeyKind.TheVariants as keys
-use Rattle.window.specs.declared.heading.CounterKind.{CounterKind}
-use Rattle.window.specs.declared.heading.CounterKind.TheVariants as counter
 
 abbrev pub keys_text : KeyKind → List ℕ
 keys_text keys.Prefix = codes "prefix"
 keys_text keys.Account = codes "account"
-
-abbrev pub counter_text : CounterKind → List ℕ
-counter_text counter.SemiOrdered = codes "semi-ordered"
-counter_text counter.SharedDeduction = codes "shared-deduction"
 
 abbrev pub plan_text : Plan → List ℕ
 plan_text p = codes "Plan of places " ++ decimal p.places ++ codes ", step " ++ decimal p.step ++ codes ", greatest weight " ++ decimal p.most

@@ -1,8 +1,9 @@
 // The heading of a log: the kind of its keys, and the counter, the plan and the level that it asks for.
 ghost use Rattle.std.specs.Prelude.{◌≡◌};
-ghost use Rattle.window.specs.Headings.{KeysRead, CounterRead, PlanRead, AsksRead, HeadingRead};
+ghost use Rattle.window.specs.Headings.{KeysRead, PlanRead, AsksRead, HeadingRead};
 
 use frame::plan::Plan;
+use inputs::kind::CounterKind;
 use text::{is_blank, next_word, number, small_number};
 
 // The kinds of key that a heading names.
@@ -21,28 +22,6 @@ impl KeyKind {
             Some(KeyKind::Prefix)
         } else if word == b"account".as_slice() {
             Some(KeyKind::Account)
-        } else {
-            None
-        }
-    }
-}
-
-// The kinds of counter that a heading names.
-#[derive(Debug, Clone, Copy, PartialEq, Eq)]
-pub enum CounterKind {
-    SemiOrdered,
-    SharedDeduction,
-}
-
-impl CounterKind {
-    // The kind of this name.
-    fn named(word: &[u8]) -> Option<CounterKind>
-        ensures { CounterRead word.now result }
-    {
-        if word == b"semi-ordered".as_slice() {
-            Some(CounterKind::SemiOrdered)
-        } else if word == b"shared-deduction".as_slice() {
-            Some(CounterKind::SharedDeduction)
         } else {
             None
         }

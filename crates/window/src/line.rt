@@ -1,11 +1,11 @@
 // The lines of a log behind its heading: packets, and calls by name.
 ghost use Rattle.std.specs.Prelude.{◌≡◌, Some};
-ghost use Rattle.window.specs.declared.line.Failure.TheVariants.{Unread as NotRead, Refused as IsRefused};
+ghost use Rattle.inputs.specs.declared.failure.Failure.TheVariants.{Unread as NotRead};
 ghost use Rattle.window.specs.Lines.{FormRead, Ends, EstimateRead, PacketRead, CallRead, LineRead};
-ghost use Rattle.window.specs.Failures.{reason, failure_text};
+ghost use Rattle.window.specs.Failures.{reason};
 
 use crate::written::WrittenKey;
-use flow::refusal::Refusal;
+use inputs::failure::Failure;
 use meter::day::Call;
 use std::error::Error;
 use std::fmt;
@@ -35,44 +35,13 @@ impl fmt::Display for Unread {
 
 impl Error for Unread {}
 
-// Why a line makes no call, or why its call is refused.
-#[derive(Debug, Clone, Copy, PartialEq, Eq)]
-pub enum Failure {
-    Unread(Unread),
-    Refused(Refusal),
-}
-
-impl From<Unread> for Failure {
+impl From<Unread> for Failure<Unread> {
     ghost from_gives = { λ why f. f ≡ NotRead why };
 
-    fn from(unread: Unread) -> Failure {
+    fn from(unread: Unread) -> Failure<Unread> {
         Failure::Unread(unread)
     }
 }
-
-impl From<Refusal> for Failure {
-    ghost from_gives = { λ refusal f. f ≡ IsRefused refusal };
-
-    fn from(refusal: Refusal) -> Failure {
-        Failure::Refused(refusal)
-    }
-}
-
-impl fmt::Display for Failure {
-    ghost output = { λ f. Some (failure_text f) };
-
-    fn fmt<W: fmt::Write>(&self, f: &mut fmt::Formatter<W>) -> fmt::Result {
-        match self {
-            Failure::Unread(unread) => write!(f, "Not read: {unread}."),
-            Failure::Refused(refusal) => {
-                let number = refusal.number();
-                write!(f, "Refused ({number}): {refusal}.")
-            }
-        }
-    }
-}
-
-impl Error for Failure {}
 
 // What a line asks for, by its first word.
 #[derive(Debug, Clone, Copy, PartialEq, Eq)]
@@ -111,7 +80,7 @@ fn end_line(rest: &[u8]) -> Result<(), Unread>
 }
 
 // The call of an estimate line, behind its first word.
-fn read_estimate<K: WrittenKey>(rest: &[u8]) -> Result<Call<K>, Failure>
+fn read_estimate<K: WrittenKey>(rest: &[u8]) -> Result<Call<K>, Failure<Unread>>
     ensures { EstimateRead (λ k. K.text (K.coded k)) rest.now result }
 {
     let (word, rest) = next_word(rest);
@@ -121,7 +90,7 @@ fn read_estimate<K: WrittenKey>(rest: &[u8]) -> Result<Call<K>, Failure>
 }
 
 // The call of a packet line: a key and a weight.
-fn read_packet<K: WrittenKey>(line: &[u8]) -> Result<Call<K>, Failure>
+fn read_packet<K: WrittenKey>(line: &[u8]) -> Result<Call<K>, Failure<Unread>>
     ensures { PacketRead (λ k. K.text (K.coded k)) line.now result }
 {
     let (word, rest) = next_word(line);
@@ -133,7 +102,7 @@ fn read_packet<K: WrittenKey>(line: &[u8]) -> Result<Call<K>, Failure>
 }
 
 // The call of a line that is not blank. Its lists are at the level of the log.
-fn read_call<K: WrittenKey>(line: &[u8], level: u64) -> Result<Call<K>, Failure>
+fn read_call<K: WrittenKey>(line: &[u8], level: u64) -> Result<Call<K>, Failure<Unread>>
     ensures { CallRead (λ k. K.text (K.coded k)) level line.now result }
 {
     let (word, rest) = next_word(line);
@@ -152,7 +121,10 @@ fn read_call<K: WrittenKey>(line: &[u8], level: u64) -> Result<Call<K>, Failure>
 }
 
 // What a line asks for, or why it asks for nothing. None where it is blank.
-pub(crate) fn read_line<K: WrittenKey>(line: &[u8], level: u64) -> Option<Result<Call<K>, Failure>>
+pub(crate) fn read_line<K: WrittenKey>(
+    line: &[u8],
+    level: u64,
+) -> Option<Result<Call<K>, Failure<Unread>>>
     ensures { LineRead (λ k. K.text (K.coded k)) level line.now result }
 {
     if is_blank(line) {

@@ -5,31 +5,24 @@ ghost use Rattle.meter.specs.Days.{said, Day};
 ghost use Rattle.meter.specs.Sequences.{day_said};
 ghost use Rattle.window.specs.Logs.{level_of, planned, LineTaken, LogRead, LayoutRead, counter_of, greatest_of, said_by};
 
-use crate::heading::{Asks, CounterKind};
-use crate::line::{Failure, read_line};
+use crate::heading::Asks;
+use crate::line::{Unread, read_line};
 use crate::written::WrittenKey;
 use flow::counter::FrameCounter;
 use frame::layout::Layout;
+use inputs::failure::Failure;
+use inputs::kind::CounterKind;
 use meter::day::{Answered, Call, day};
-use meter::meter::Meter;
 use semi::SemiOrdered;
 use shared::SharedDeduction;
 use std::alloc::{AllocError, Global};
-use std::mem::size_of;
-
-// The bytes that a meter stays below, whatever its window.
-const METER_BYTES: usize = 32 * 1024;
-
-const _: () = prove!(size_of::<Meter<SemiOrdered>>() < METER_BYTES);
-
-const _: () = prove!(size_of::<Meter<SharedDeduction>>() < METER_BYTES);
 
 // What stands on a line: nothing, a call, or something else.
 #[derive(Debug, Clone, Copy, PartialEq, Eq)]
 pub enum Note {
     Blank,
     Call,
-    Wrong(Failure),
+    Wrong(Failure<Unread>),
 }
 
 // The level of a log's lists. Where its heading asks for none they are refused, whatever the level.

@@ -1,11 +1,12 @@
 // What is printed of a log.
 use crate::heading::{Asks, KeyKind};
 use crate::interval::Interval;
-use crate::line::{Failure, Unread};
+use crate::line::Unread;
 use crate::log::{Note, meter_log};
 use crate::wording::{Asked, Replied};
 use crate::written::{Written, WrittenKey};
 use frame::layout::Layout;
+use inputs::failure::Failure;
 use meter::day::{Answered, Call, Reply};
 use meter::record::Record;
 use std::io;
@@ -69,7 +70,7 @@ fn show_unit(rt: &HostRuntime, layout: Option<Layout>) -> io::Result<()> {
 }
 
 // Prints why a line made no call, or why its call was refused.
-fn show_failure(rt: &HostRuntime, number: u64, failure: Failure) -> io::Result<()> {
+fn show_failure(rt: &HostRuntime, number: u64, failure: Failure<Unread>) -> io::Result<()> {
     println!(rt; "Line {number}. {failure}")
 }
 
@@ -121,7 +122,7 @@ fn show_heavy<K: WrittenKey>(
             Ok(())
         }
         Err(refusal) => {
-            let failure = Failure::from(*refusal);
+            let failure = Failure::<Unread>::from(*refusal);
             println!(rt; "\nHeavy flows at the end. {failure}")?;
             Ok(())
         }

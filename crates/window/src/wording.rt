@@ -1,8 +1,8 @@
 // What is printed of headings, calls and replies, in words.
 ghost use Rattle.std.specs.Prelude.{Some};
-ghost use Rattle.window.specs.Wordings.{keys_text, counter_text, asked_text, reply_text};
+ghost use Rattle.window.specs.Wordings.{keys_text, asked_text, reply_text};
 
-use crate::heading::{CounterKind, KeyKind};
+use crate::heading::KeyKind;
 use crate::written::{Written, WrittenKey};
 use frame::plan::Plan;
 use meter::day::{Call, Reply};
@@ -15,17 +15,6 @@ impl fmt::Display for KeyKind {
         f.write_str(match self {
             KeyKind::Prefix => "prefix",
             KeyKind::Account => "account",
-        })
-    }
-}
-
-impl fmt::Display for CounterKind {
-    ghost output = { λ k. Some (counter_text k) };
-
-    fn fmt<W: fmt::Write>(&self, f: &mut fmt::Formatter<W>) -> fmt::Result {
-        f.write_str(match self {
-            CounterKind::SemiOrdered => "semi-ordered",
-            CounterKind::SharedDeduction => "shared-deduction",
         })
     }
 }

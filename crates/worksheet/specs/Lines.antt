@@ -1,7 +1,6 @@
 -- The lines of an input. Assumes nothing.
 --   IsName        a word that names a flow: one to ten digits
 --   PacketRead    what a packet line is read as: its packet, or the first thing that is wrong with it
---   KindRead      the kind that a word names
 --   Sized         a line of two whole numbers and no more
 --   SizesRead     the two numbers of such a line
 --   HeadingRead   what a line is read as where it may be a heading: the kind that it begins with, and the sizes behind it; none where it begins with no kind
@@ -9,8 +8,7 @@
 use Rattle.std.specs.Prelude.{◌≡◌, ℕ, ◌≤◌, List, [], length, Some, None, Ok, Err, codes, Option, Result, ◌≢◌}
 use Rattle.std.specs.Str.Parse.{digits_value, IsNumeral}
 use Rattle.text.specs.Reading.{after_word, first, second, third, small}
-use Rattle.worksheet.specs.declared.line.Kind.{Kind}
-use Rattle.worksheet.specs.declared.line.Kind.TheVariants.{SemiOrdered, SharedDeduction}
+use Rattle.inputs.specs.Kinds.{KindRead}
 use Rattle.worksheet.specs.declared.line.Sizes.{Sizes}
 use Rattle.worksheet.specs.declared.line.Heading.{Heading}
 use Rattle.worksheet.specs.declared.line.Packet.{Packet}
@@ -28,11 +26,6 @@ PacketRead line (Err Name) = IsName (first line) → ⊥
 PacketRead line (Err Weight) = IsName (first line) × (IsNumeral 10 (second line) → ⊥)
 PacketRead line (Err Headed) = ⊥
 PacketRead line (Err More) = IsName (first line) × IsNumeral 10 (second line) × (third line ≢ [])
-
-abbrev pub KindRead : List ℕ → Option Kind → Type 0
-KindRead word (Some SemiOrdered) = word ≡ codes "semi-ordered"
-KindRead word (Some SharedDeduction) = word ≡ codes "shared-deduction"
-KindRead word None = (word ≢ codes "semi-ordered") × (word ≢ codes "shared-deduction")
 
 abbrev pub Sized : List ℕ → Type 0
 Sized line = IsNumeral 10 (first line) × IsNumeral 10 (second line) × (third line ≡ [])

@@ -1,39 +1,20 @@
 // The lines of an input: a heading, then a packet on each line.
 ghost use Rattle.std.specs.Prelude.{◌≡◌, Some, MatchOption};
 ghost use Rattle.std.specs.Str.Parse.{digits_value, IsNumeral};
-ghost use Rattle.worksheet.specs.Lines.{IsName, PacketRead, KindRead, SizesRead, HeadingRead, reason};
+ghost use Rattle.inputs.specs.declared.failure.Failure.TheVariants.{Unread as NotRead};
+ghost use Rattle.worksheet.specs.Lines.{IsName, PacketRead, SizesRead, HeadingRead, reason};
 
 use flow::account::Account;
 use flow::code::Code;
 use flow::key::FlowKey;
+use inputs::failure::Failure;
+use inputs::kind::CounterKind;
 use std::error::Error;
 use std::fmt;
 use text::{is_blank, next_word, number, small_number};
 
 // The most digits of a flow name.
 const NAME_DIGITS: usize = Account::BYTES;
-
-// The kinds of counter that a heading names.
-#[derive(Debug, Clone, Copy, PartialEq, Eq)]
-pub enum Kind {
-    SemiOrdered,
-    SharedDeduction,
-}
-
-impl Kind {
-    // The kind of this name. A word that names none is no error: its line is a packet's.
-    fn named(word: &[u8]) -> Option<Kind>
-        ensures { KindRead word.now result }
-    {
-        if word == b"semi-ordered".as_slice() {
-            Some(Kind::SemiOrdered)
-        } else if word == b"shared-deduction".as_slice() {
-            Some(Kind::SharedDeduction)
-        } else {
-            None
-        }
-    }
-}
 
 // The places and the step that a heading asks for. They may be out of range: the counter refuses those.
 #[derive(Debug, Clone, Copy, PartialEq, Eq)]
@@ -62,14 +43,14 @@ impl Sizes {
 // What a heading asks for: a kind, and the sizes where they can be read.
 #[derive(Debug, Clone, Copy, PartialEq, Eq)]
 pub struct Heading {
-    pub kind: Kind,
+    pub kind: CounterKind,
     pub sizes: Option<Sizes>,
 }
 
 impl Heading {
     // What a first line asks for that begins with no kind.
     pub(crate) const UNREAD: Heading = Heading {
-        kind: Kind::SemiOrdered,
+        kind: CounterKind::SemiOrdered,
         sizes: None,
     };
 
@@ -78,7 +59,7 @@ impl Heading {
         ensures { HeadingRead line.now result }
     {
         let (word, rest) = next_word(line);
-        let kind = Kind::named(word)?;
+        let kind = CounterKind::named(word)?;
         Some(Heading {
             kind,
             sizes: Sizes::read(rest),
@@ -110,6 +91,14 @@ impl fmt::Display for Unread {
 }
 
 impl Error for Unread {}
+
+impl From<Unread> for Failure<Unread> {
+    ghost from_gives = { λ why f. f ≡ NotRead why };
+
+    fn from(unread: Unread) -> Failure<Unread> {
+        Failure::Unread(unread)
+    }
+}
 
 // A packet as a line gives it.
 #[derive(Debug, Clone, Copy, PartialEq, Eq)]

@@ -1,57 +1,14 @@
 // A sheet: its title, a working for each packet, and the table at its end.
-ghost use Rattle.std.specs.Prelude.{◌≡◌, Some};
-ghost use Rattle.worksheet.specs.declared.sheet.Failure.TheVariants.{Unread as NotRead, Refused as IsRefused};
-ghost use Rattle.worksheet.specs.Failures.{failure_text};
-
-use crate::line::{Heading, Kind, Packet, Sizes, Unread};
+use crate::line::{Heading, Packet, Sizes, Unread};
 use crate::totals::Totals;
 use crate::worked::Worked;
 use flow::counter::FrameCounter;
-use flow::refusal::Refusal;
+use inputs::failure::Failure;
+use inputs::kind::CounterKind;
 use semi::SemiOrdered;
 use shared::SharedDeduction;
-use std::error::Error;
-use std::{fmt, io};
+use std::io;
 use text::is_blank;
-
-// Why a line is not worked.
-#[derive(Debug, Clone, Copy, PartialEq, Eq)]
-pub enum Failure {
-    Unread(Unread),
-    Refused(Refusal),
-}
-
-impl From<Unread> for Failure {
-    ghost from_gives = { λ why f. f ≡ NotRead why };
-
-    fn from(unread: Unread) -> Failure {
-        Failure::Unread(unread)
-    }
-}
-
-impl From<Refusal> for Failure {
-    ghost from_gives = { λ refusal f. f ≡ IsRefused refusal };
-
-    fn from(refusal: Refusal) -> Failure {
-        Failure::Refused(refusal)
-    }
-}
-
-impl fmt::Display for Failure {
-    ghost output = { λ f. Some (failure_text f) };
-
-    fn fmt<W: fmt::Write>(&self, f: &mut fmt::Formatter<W>) -> fmt::Result {
-        match self {
-            Failure::Unread(unread) => write!(f, "Not read: {unread}."),
-            Failure::Refused(refusal) => {
-                let number = refusal.number();
-                write!(f, "Refused ({number}): {refusal}.")
-            }
-        }
-    }
-}
-
-impl Error for Failure {}
 
 // A sheet of any kind, which is known only when the program runs. It is an enum, since a function may not make a `dyn` value and hand it out.
 #[derive(Drop)]
@@ -65,10 +22,10 @@ impl AnySheet {
     pub(crate) fn begin(rt: &HostRuntime, number: u64, heading: Heading) -> io::Result<AnySheet> {
         let Heading { kind, sizes } = heading;
         Ok(match kind {
-            Kind::SemiOrdered => {
+            CounterKind::SemiOrdered => {
                 AnySheet::SemiOrdered(Sheet::begin(rt, number, SemiOrdered::new(), sizes)?)
             }
-            Kind::SharedDeduction => {
+            CounterKind::SharedDeduction => {
                 AnySheet::SharedDeduction(Sheet::begin(rt, number, SharedDeduction::new(), sizes)?)
             }
         })
@@ -169,7 +126,7 @@ impl<C: Worked> Sheet<C> {
 }
 
 // Opens the counter with the sizes of its heading.
-fn open<C: FrameCounter>(counter: &mut C, sizes: Option<Sizes>) -> Result<(), Failure> {
+fn open<C: FrameCounter>(counter: &mut C, sizes: Option<Sizes>) -> Result<(), Failure<Unread>> {
     let Sizes { places, step } = sizes.ok_or(Unread::Heading)?;
     let places = usize::try_from(places).unwrap_or(usize::MAX);
     counter.open(places, step)?;
@@ -177,6 +134,6 @@ fn open<C: FrameCounter>(counter: &mut C, sizes: Option<Sizes>) -> Result<(), Fa
 }
 
 // Prints why a line was not worked. The handle and the number are passed as they are: a struct of both would be made for each line and taken apart at each print.
-fn show_failure(rt: &HostRuntime, number: u64, failure: Failure) -> io::Result<()> {
+fn show_failure(rt: &HostRuntime, number: u64, failure: Failure<Unread>) -> io::Result<()> {
     println!(rt; "Line {number}. {failure}\n")
 }
