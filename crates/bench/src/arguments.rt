@@ -51,7 +51,7 @@ impl Arguments {
         };
         Some(Arguments {
             plan: Plan {
-                places: usize::try_from(small_number(places.as_bytes())?).ok()?,
+                places: usize::try_from(small_number(places.as_bytes())?).unwrap_or(usize::MAX),
                 step: small_number(step.as_bytes())?,
                 most: small_number(most.as_bytes())?,
                 window: small_number(window.as_bytes())?,

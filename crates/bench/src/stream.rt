@@ -47,6 +47,7 @@ fn flow_from(flows: u64, first: u64, second: u64) -> u64
 fn weight_from(most: u32, draw: u64) -> u32
     ensures { result ≡ weight_from most draw }
 {
+    // A remainder by a number of 32 bits fits them, and no `From` says so.
     1 + (draw % u64::from(most.max(1))) as u32
 }
 

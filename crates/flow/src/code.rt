@@ -10,7 +10,7 @@ pub struct Code {
 }
 
 impl Code {
-    // Whether two codes are equal, as `==` says. Callers were promised it, so it stands.
+    // Whether two codes are equal, as `==` says.
     pub fn same(self, other: Code) -> bool
         ensures { result ≡ same self other }
     {

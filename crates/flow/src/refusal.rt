@@ -49,7 +49,7 @@ impl Refusal {
             Refusal::GreatestWeightOutOfRange => "the greatest weight is not from 1 to 1048576",
             Refusal::WindowOutOfRange => "the window is not from 1 to 16777216 packets",
             Refusal::BlocksUnfit => "the blocks do not divide the window",
-            Refusal::PlacesTooFew => "the places are too few for this window",
+            Refusal::PlacesTooFew => "the places are too few for the blocks and the step",
             Refusal::WeightZero => "the weight is 0",
             Refusal::WeightAbovePlan => "the weight is above the greatest weight of the plan",
             Refusal::LevelTooLow => "the level is below three times the unit",

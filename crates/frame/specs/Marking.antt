@@ -4,8 +4,8 @@
 --   remains         some mark was made in the block of the packet at offset i
 --   dropped         the marks of the previous frame once the packet at offset i has come: the oldest goes if one of its block remains
 --   leave           the same where offsets rise: it is enough to look at the oldest
+--   marks_from      how many marks a flow has that were made at offset a or later
 --   marks_of        how many marks a flow has
---   marks_from      how many of them were made at offset a or later
 --   flow_estimate   T (m + 2) + q mod T, for m marks and the counter's estimate q
 --   without         a list of codes without one of them
 --   times           how often a code stands in a list

@@ -1,6 +1,7 @@
 -- Plans and their refusals. Assumes nothing.
 --   block_of      b = W / k, the packets of a block
 --   unit_of       T = M b, the unit of marks
+--   wrapped       the offset of the next packet, with n packets in the present frame: 0 where it is full
 --   next_offset   the offset after i: 0 behind the last of a frame
 --   judged        what is wrong with the numbers of a plan, in the order of the checks; g is the counter's greatest step
 --   Fair          what the numbers of an accepted plan keep

@@ -45,7 +45,7 @@ pub record Window (z : Plan) (present behind : List Packet) (older newer : List 
   pub since : (k : Code) (a : ℕ) → Since (unit_of z) (est k) (volume_in k (take (length present - a) present)) (marks_from a k newer)
   pub before : (k : Code) (a : ℕ) → p ≤ a → Stretch (unit_of z) (volume_in k (take (z.window - a) behind)) (marks_from a k older)
 
--- One add: the code's own estimate rises by w; any other stays, or rises to some r with n r below bound, itself below n T.
+-- One add: the code's own estimate rises by w; any other stays, or rises to some r with n r at most top, and top is below n T.
 pub record Moves (n top t : ℕ) (k : Code) (w : ℕ) (e d : Code → ℕ) : Type 0 where
   pub own : d k ≡ e k + w
   pub other : (j : Code) → (j ≢ k) → (d j ≡ e j) ⊎ ((e j ≤ d j) × (n * d j ≤ top))

@@ -5,7 +5,7 @@
 --   plan_leaves       the state after a plan: an accepted one opens the counter
 --   flushed_frame     the counter is flushed, and the marks made so far are those of the previous frame
 --   begun             that is done at offset 0
---   left              the oldest mark is dropped if one made one frame before in the present block remains
+--   left              if a mark that was made in this block one frame ago remains, the oldest mark is dropped
 --   counted           the packet is added, marked if that is due, and the next offset follows
 --   taken             these three, in this order
 --   packet_answer     what a packet is answered: the counter's passes

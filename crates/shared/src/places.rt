@@ -1,4 +1,4 @@
-// The steps of an add to the places of a shared-deduction counter. They are functions of a slice: a struct round it would only hand it on. Code and weight come as the counter's `add` has them.
+// The steps of an add to the places of a shared-deduction counter, on a slice of them. Code and weight come as the counter's `add` has them.
 ghost use Rattle.std.specs.Prelude.{◌≡◌, ◌+◌, ◌^◌, ◌<◌, ◌≤◌, ◌||◌, false, if◌then◌else◌, replicate, Some, None};
 ghost use Rattle.std.specs.List.{find};
 ghost use Rattle.flow.specs.Codes.{same};

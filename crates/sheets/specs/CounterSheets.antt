@@ -1,7 +1,9 @@
 -- Worked sheets of the counters, as facts about the rules. Assumes nothing.
 --   flow            the code of a flow of a sheet
 --   A, B, C, E      such flows
+--   semi_first, semi_second, semi_third   the semi-ordered counter after A 7 and B 25, then C 3, then C 30
 --   SemiSheet       semi-ordered, two places, step 10: A 7 and B 25, then C 3, then C 30
+--   shared_first, shared_second   the shared-deduction counter after A 5, B 3 and C 4, then E 1
 --   SharedSheet     shared-deduction, two places: A 5, B 3 and C 4, then E 1
 use Rattle.std.specs.Prelude.{◌≡◌, false, [], ◌∷◌, ℕ}
 use Rattle.flow.specs.declared.code.Code.{Code}

@@ -2,6 +2,7 @@
 --   behind         what follows the first so many words of a line
 --   nth            the word that comes next, empty where there is none
 --   value_at       the number that it writes, or the greatest of 32 bits where it is larger
+--   keys_text      the name of a kind of key
 --   KeysRead       the kind of key that a word names
 --   Numbers        a line begins with five whole numbers
 --   plan_of        the plan that they are: places, step, greatest weight, window and blocks
@@ -30,10 +31,13 @@ nth k line = word_of (behind k line)
 abbrev pub value_at : ℕ → List ℕ → ℕ
 value_at k line = small (digits_value 10 (nth k line))
 
+abbrev pub keys_text : KeyKind → List ℕ
+keys_text Prefix = codes "prefix"
+keys_text Account = codes "account"
+
 abbrev pub KeysRead : List ℕ → Option KeyKind → Type 0
-KeysRead word (Some Prefix) = word ≡ codes "prefix"
-KeysRead word (Some Account) = word ≡ codes "account"
-KeysRead word None = (word ≢ codes "prefix") × (word ≢ codes "account")
+KeysRead word (Some k) = word ≡ keys_text k
+KeysRead word None = (k : KeyKind) → word ≢ keys_text k
 
 pub record Numbers (line : List ℕ) : Type 0 where
   pub places : IsNumeral 10 (nth 0 line)

@@ -2,8 +2,11 @@
 -- A key writes a word where the word is the key's written form.
 --   FormRead       what a line with this first word asks for: a list, a restart, an estimate, or else a packet
 --   Ends           what the rest of a line is read as that has to be blank
+--   Written        some key writes a word
 --   EstimateRead   what follows the word `estimate` is read as: the call with the key that it names, or the first thing that is wrong with it
 --   PacketRead     what a packet line is read as: the call with its key and weight, or the first thing that is wrong with it
+--   BareRead       what follows `list` or `restart` is read as: the call, unless there is more on the line
+--   ReadAs         what a line of a form is read as
 --   CallRead       what a line is read as: a call, or the first thing that is wrong with it
 --   LineRead       the same, or nothing where the line is blank
 use Rattle.std.specs.Prelude.{◌≡◌, ◌≢◌, ℕ, List, [], Some, None, Ok, Err, codes, Option, Result}

@@ -3,12 +3,13 @@
 --   planned       the plan that its heading asks for, if any, as the first call
 --   asked         the call of a line, if it has one
 --   note_of       what stands on a line
+--   LineTaken     the calls and the notes, with a line more
 --   LinesRead     the calls, that of the heading first, and the notes, one for each line, once these lines were read
 --   LogRead       the same for a whole log, with one more list at the end
+--   LayoutRead    the layout of the plan, where a counter with this greatest step takes it
 --   counter_of    the kind of counter that the heading asks for
 --   greatest_of   the greatest step of a kind
 --   said_by       the answers to calls on a new meter over a new counter of a kind, by the rules
---   LayoutRead    the layout of the plan, where a counter with this greatest step takes it
 use Rattle.std.specs.Prelude.{◌≡◌, ◌≢◌, ℕ, List, [], ◌∷◌, ◌++◌, Some, None, Ok, Err, Option, Result}
 use Rattle.flow.specs.Answers.{answered}
 use Rattle.flow.specs.Limits.{most_step}

@@ -1,5 +1,4 @@
--- What is printed of kinds of key, calls and replies, in words. Assumes nothing.
---   keys_text      a kind of key
+-- What is printed of calls and replies, in words. Assumes nothing.
 --   plan_text      the numbers of a plan
 --   asked_text     a call
 --   reply_text     what a meter replies to a call; of a list how many flows it has
@@ -10,12 +9,6 @@ use Rattle.meter.specs.declared.day.Call.{Call}
 use Rattle.meter.specs.declared.day.Call.TheVariants as call
 use Rattle.meter.specs.declared.day.Reply.{Reply}
 use Rattle.meter.specs.declared.day.Reply.TheVariants as reply
-use Rattle.window.specs.declared.heading.KeyKind.{KeyKind}
-use Rattle.window.specs.declared.heading.KeyKind.TheVariants as keys
-
-abbrev pub keys_text : KeyKind → List ℕ
-keys_text keys.Prefix = codes "prefix"
-keys_text keys.Account = codes "account"
 
 abbrev pub plan_text : Plan → List ℕ
 plan_text p = codes "Plan of places " ++ decimal p.places ++ codes ", step " ++ decimal p.step ++ codes ", greatest weight " ++ decimal p.most

@@ -1,6 +1,7 @@
 // What is printed of headings, calls and replies, in words.
 ghost use Rattle.std.specs.Prelude.{Some};
-ghost use Rattle.window.specs.Wordings.{keys_text, asked_text, reply_text};
+ghost use Rattle.window.specs.Headings.{keys_text};
+ghost use Rattle.window.specs.Wordings.{asked_text, reply_text};
 
 use crate::heading::KeyKind;
 use crate::written::{Written, WrittenKey};

@@ -133,7 +133,7 @@ fn open<C: FrameCounter>(counter: &mut C, sizes: Option<Sizes>) -> Result<(), Fa
     Ok(())
 }
 
-// Prints why a line was not worked. The handle and the number are passed as they are: a struct of both would be made for each line and taken apart at each print.
+// Prints why a line was not worked.
 fn show_failure(rt: &HostRuntime, number: u64, failure: Failure<Unread>) -> io::Result<()> {
     println!(rt; "Line {number}. {failure}\n")
 }

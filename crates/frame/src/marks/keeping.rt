@@ -58,15 +58,6 @@ impl Marks {
         flows
     }
 
-    // The flow of the mark at this place, if no mark before it is of that flow. Callers were promised it, so it stands; `flows` has them all.
-    pub fn flow_at(&self, place: usize) -> Option<Code>
-        ensures { flows (take (place + 1) (listed self.now)) ≡ flows (take place (listed self.now)) ++ option_to_list result }
-    {
-        let code = self.marks.get(place)?.code;
-        let is_first = !self.marks[..place].iter().any(|mark| mark.code == code);
-        is_first.then_some(code)
-    }
-
     // Puts a mark last; where there is no room, all stays.
     pub fn put(&mut self, mark: Mark)
         ensures older { older self.new ≡ older self.old }
@@ -92,14 +83,5 @@ impl Marks {
         ensures newer { newer self.new ≡ [] }
     {
         self.previous = self.marks.len();
-    }
-
-    // Drops every mark. Callers were promised it, so it stands.
-    pub fn clear(&mut self)
-        ensures older { older self.new ≡ [] }
-        ensures newer { newer self.new ≡ [] }
-    {
-        self.marks.clear();
-        self.previous = 0;
     }
 }

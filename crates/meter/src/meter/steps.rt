@@ -1,4 +1,4 @@
-// The steps of calls, on a window and its counter. Each says that the layout stays. A frame apart from its layout would take the layout as a parameter in place of the clause, and be no plainer.
+// The steps of calls, on a window and its counter. Each says that the layout stays.
 // The counter stands beside the window, since a meter has one before it has a plan; code and weight come as its `add` has them.
 ghost use Rattle.std.specs.Prelude.{◌≡◌, ◌≤◌, [], IfOk, OnOk};
 ghost use Rattle.flow.specs.Answers.{told, Unchanged};
