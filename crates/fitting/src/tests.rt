@@ -6,6 +6,7 @@ use flow::counter::FrameCounter;
 use flow::key::FlowKey;
 use flow::refusal::Refusal;
 use frame::plan::Plan;
+use meter::day::{Answered, Areas, Call, Reply, day};
 use meter::meter::Meter;
 use semi::SemiOrdered;
 use std::test::Fail;
@@ -61,23 +62,77 @@ fn peaks_nest(rt: HostRuntime) {
     assert_eq!(rt; outer.into_inner().volume(), 4);
 }
 
-// Ports are metered over a window of four packets. The unit is 10 * 2 = 20, so a flow with no mark is estimated at 40 and more.
+// A window of four packets. The unit is 10 * 2 = 20, so a flow with no mark is estimated at 40 and more.
+const PLAN: Plan = Plan {
+    places: 3,
+    step: 1,
+    most: 10,
+    window: 4,
+    blocks: 2,
+};
+
 #[test]
 fn ports_are_metered(rt: HostRuntime) -> Result<(), Fail> {
     let domain = Port::read(&[0, 53])?;
     let web = Port::read(&[0, 80])?;
     let mut meter = Meter::new(Peaked::new(SemiOrdered::new()));
-    meter.plan(Plan {
-        places: 3,
-        step: 1,
-        most: 10,
-        window: 4,
-        blocks: 2,
-    })?;
+    meter.plan(PLAN)?;
     meter.packet(&domain, 10)?;
     meter.packet(&domain, 10)?;
     assert_eq!(rt; meter.estimate(&domain)?, 60);
     assert_eq!(rt; meter.estimate(&web)?, 40);
     assert_eq!(rt; meter.packet(&web, 11).err().map(Refusal::number), Some(10));
+    Ok(())
+}
+
+// The number of a refusal, if this answer is one.
+fn number_of(answer: &Answered) -> Option<u8> {
+    match answer {
+        Ok(_) => None,
+        Err(refusal) => Some(refusal.number()),
+    }
+}
+
+// The number of flows that a list has, if this answers one.
+fn flows_of(answer: &Answered) -> Option<usize> {
+    match answer {
+        Ok(Reply::Listed(records)) => Some(records.len()),
+        _ => None,
+    }
+}
+
+#[test]
+fn a_day_goes_on_after_refusals(rt: HostRuntime) -> Result<(), Fail> {
+    let domain = Port::read(&[0, 53])?;
+    let [no_scratch, no_table, enough] = [(509, 1), (510, 0), (510, 1)].map(|(
+        scratch,
+        table,
+    )| Areas { scratch, table });
+    let calls = [
+        Call::Packet(domain, 10),
+        Call::Plan(PLAN),
+        Call::Packet(domain, 10),
+        Call::Packet(domain, 10),
+        Call::Packet(domain, 11),
+        Call::List(60, no_scratch),
+        Call::List(60, no_table),
+        Call::List(60, enough),
+    ];
+    let answers = day(rt.alloc(), Peaked::new(SemiOrdered::new()), &calls)?;
+    let wanted = [
+        Some(17),
+        None,
+        None,
+        None,
+        Some(10),
+        Some(12),
+        Some(13),
+        None,
+    ];
+    assert_eq!(rt; answers.len(), wanted.len());
+    for (answer, number) in answers.iter().zip(wanted) {
+        assert_eq!(rt; number_of(answer), number);
+    }
+    assert_eq!(rt; answers.last().and_then(flows_of), Some(1));
     Ok(())
 }

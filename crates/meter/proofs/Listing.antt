@@ -1,8 +1,11 @@
 -- Lists, flow by flow.
-use Rattle.std.proofs.Common.{◌≡◌, ℕ, ◌+◌, ◌*◌, ◌<◌, ◌≤◌, Bool, true, false, cond, leb, List, [], ◌∷◌, ◌++◌, length, get_or, take, Some, Option, sym, refl, ap, ◌∙◌, subst, append-nil, arith, take_all}
+use Rattle.std.proofs.Common.{◌≡◌, ℕ, ◌+◌, ◌*◌, ◌<◌, ◌≤◌, Bool, true, false, cond, leb, List, [], ◌∷◌, ◌++◌, length, get_or, take, Some, None, Option, sym, refl, ap, ◌∙◌, subst, append-nil, arith, take_all, ltb, min}
 use lib.Seq.{take-append-le}
-use Rattle.std.proofs.lemmas.List.{take_more}
+use Rattle.std.proofs.lemmas.List.{take_more, take-append-drop, length-take}
 use Rattle.std.proofs.lemmas.Bool.{cond-true, cond-false, le-leb, lt-leb}
+use Rattle.std.proofs.lemmas.Bool.Decides.{nat_tests}
+use Rattle.flow.specs.Answers.{Answer, answered, refused}
+use Rattle.flow.specs.Limits.{least_scratch, most_marks}
 use Rattle.flow.specs.Meanings.{Meaning}
 use Rattle.flow.specs.declared.code.Code.{Code}
 use Rattle.frame.specs.declared.plan.Plan.{Plan}
@@ -10,9 +13,11 @@ use Rattle.frame.specs.Plans.{unit_of}
 use Rattle.meter.specs.declared.record.Record.{Record}
 use Rattle.meter.specs.Ledgers.{Ledger}
 use Rattle.meter.specs.Guarantees.{ListsUnder}
-use Rattle.meter.specs.States.{State, listing, list_in}
+use Rattle.meter.specs.States.{State, listing, list_in, list_for, list_answer, count_of}
+use Rattle.meter.specs.declared.meter.Window.{Window}
+use Rattle.meter.specs.Meters.{state_in}
 use Rattle.meter.specs.Holding.{Kept, Holds}
-use Rattle.meter.proofs.Answering.{lists}
+use Rattle.meter.proofs.Answering.{lists, list_few}
 
 listing-append : (est : Code → ℕ) (level : ℕ) (xs ys : List Code) → listing est level (xs ++ ys) ≡ listing est level xs ++ listing est level ys
 listing-append est level [] ys = refl
@@ -48,3 +53,33 @@ pub taken-front : (rs table : List Record) (n : ℕ) → n ≡ length rs → tak
 taken-front rs table n e =
     let le : n ≤ length rs = omega arith in
     take-append-le n rs table le ∙ take_all n rs (omega arith)
+
+-- all marks find room
+pub marks_within : {C : Type 0} (m : Meaning C) (c : C) (o : Option Window) → length ((state_in m c o).older ++ (state_in m c o).newer) ≤ most_marks
+marks_within m c None = omega arith
+marks_within m c (Some w) = omega (arith, ap length (take-append-drop w.marks.previous w.marks.marks.items), w.marks.few)
+
+-- areas that are longer than every list needs change no answer
+list_capped : {C : Type 0} (m : Meaning C) (s : State m.Model) (o : Option Plan) (level scratch table x y : ℕ) → x ≡ min scratch least_scratch → y ≡ min table most_marks →
+    length (s.older ++ s.newer) ≤ most_marks → list_for m o s level x y ≡ list_for m o s level scratch table
+list_capped m s None level scratch table x y x-is y-is few = refl
+list_capped m s (Some p) level scratch table x y x-is y-is few =
+    let short : length (list_in m s p level) ≤ most_marks = omega (arith, list_few m s p level, few) in
+    λ i. cond (ltb level (3 * unit_of p)) (refused 11) (cond (capped scratch least_scratch x least_scratch x-is (omega arith) i) (refused 12) (cond (capped table most_marks y (length (list_in m s p level)) y-is short i) (refused 13) (answered (list_in m s p level))))
+  where
+    capped : (a top x n : ℕ) → x ≡ min a top → n ≤ top → ltb x n ≡ ltb a n
+    capped a top x n is le = grind (arith, nat_tests)
+
+-- a list is refused as the count of its records is
+refused_by : (a : Answer (List Record)) (n : ℕ) → refused n ≡ count_of a → refused n ≡ a
+refused_by (answered rs) n e = cc
+refused_by (refused k) n e = cc
+
+-- a list that is lent parts of such areas is refused as with the areas
+pub refused_capped : {C : Type 0} (m : Meaning C) (s : State m.Model) (level scratch table n x y : ℕ) (bytes : List ℕ) (records : List Record) → x ≡ min scratch least_scratch → y ≡ min table most_marks →
+    length bytes ≡ least_scratch → length records ≡ most_marks → length (s.older ++ s.newer) ≤ most_marks →
+    refused n ≡ count_of (list_answer m s level (length (take x bytes)) (length (take y records))) → refused n ≡ list_answer m s level scratch table
+refused_capped m s level scratch table n x y bytes records x-is y-is long full few e =
+    let a : length (take x bytes) ≡ min scratch least_scratch = grind (arith, length-take x bytes) in
+    let b : length (take y records) ≡ min table most_marks = grind (arith, length-take y records) in
+    refused_by (list_answer m s level scratch table) n (e ∙ ap count_of (list_capped m s s.plan level scratch table (length (take x bytes)) (length (take y records)) a b few))

@@ -60,14 +60,14 @@ module _ {K : Type 0} (coded : K → Code) where
   step l (call.Plan q) = planned l q
   step l (call.Packet k w) = noted l (coded k) w
   step l (call.Estimate k) = l
-  step l (call.List level) = l
+  step l (call.List level areas) = l
   step l call.Restart = restarted l
 
   abbrev pub Right : Ledger → Call K → Said → Type 0
   Right l (call.Plan q) a = a ≡ plan_said (plan_verdict l.greatest l.plan q)
   Right l (call.Packet k w) a = (x : ℕ) × (x ≤ places_of l.plan) × (a ≡ packet_said (packet_verdict l.plan w x))
   Right l (call.Estimate k) a = (e : Answer ℕ) × EstimateRight l.plan l.roll (coded k) e × (a ≡ estimate_said e)
-  Right l (call.List level) a = (e : Answer (List Record)) × ListRight l.plan l.roll level e × (a ≡ list_said e)
+  Right l (call.List level areas) a = (e : Answer (List Record)) × ListRight l.plan l.roll level areas e × (a ≡ list_said e)
   Right l call.Restart a = a ≡ restart_said (restart_verdict l.plan)
 
   abbrev pub Runs : Ledger → List (Call K) → List Said → Type 0

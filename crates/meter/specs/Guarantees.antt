@@ -5,15 +5,17 @@
 --   places_of       the places of the plan
 --   ListsUnder      a list keeps the guarantee under the plan
 --   EstimateRight   the answers that an estimate may have under a ledger
---   ListRight       the answers that a list may have under a ledger
-use Rattle.std.specs.Prelude.{◌≡◌, ℕ, ◌+◌, ◌*◌, ◌<◌, ◌≤◌, List, map, Some, None, MatchBool, Option, nat_lt}
+--   ListRight       the answers that a list with areas of some lengths may have under a ledger
+use Rattle.std.specs.Prelude.{◌≡◌, ℕ, ◌+◌, ◌*◌, ◌<◌, ◌≤◌, cond, List, length, map, Some, None, MatchBool, Option, nat_lt}
 use Rattle.std.specs.List.{AllByRecursion}
 use Rattle.flow.specs.Answers.{Answer, answered, refused}
+use Rattle.flow.specs.Limits.{least_scratch}
 use Rattle.flow.specs.declared.code.Code.{Code}
 use Rattle.frame.specs.declared.plan.Plan.{Plan}
 use Rattle.frame.specs.Marking.{times}
 use Rattle.frame.specs.Plans.{unit_of}
 use Rattle.frame.specs.Rolls.{Packet, true_volume}
+use Rattle.meter.specs.declared.day.Areas.{Areas}
 use Rattle.meter.specs.declared.record.Record.{Record}
 
 abbrev pub Within : Plan → List Packet → Code → ℕ → Type 0
@@ -41,7 +43,10 @@ abbrev pub EstimateRight : Option Plan → List Packet → Code → Answer ℕ �
 EstimateRight None roll k a = a ≡ refused 17
 EstimateRight (Some p) roll k a = (e : ℕ) × (a ≡ answered e) × Within p roll k e
 
--- 17 without a plan; 11 where the level is below 3 T; else a list that keeps the guarantee
-abbrev pub ListRight : Option Plan → List Packet → ℕ → Answer (List Record) → Type 0
-ListRight None roll level a = a ≡ refused 17
-ListRight (Some p) roll level a = MatchBool (nat_lt level (3 * unit_of p)) (a ≡ refused 11) ((rs : List Record) × (a ≡ answered rs) × Lists p roll level rs)
+-- 17 without a plan; 11 where the level is below 3 T; 12 where the scratch is too short; else there is a list that keeps the guarantee: 13 where the table is shorter, and else that list
+abbrev pub ListRight : Option Plan → List Packet → ℕ → Areas → Answer (List Record) → Type 0
+ListRight None roll level areas a = a ≡ refused 17
+ListRight (Some p) roll level areas a =
+    MatchBool (nat_lt level (3 * unit_of p)) (a ≡ refused 11)
+    (MatchBool (nat_lt areas.scratch least_scratch) (a ≡ refused 12)
+    ((rs : List Record) × Lists p roll level rs × (a ≡ cond (nat_lt areas.table (length rs)) (refused 13) (answered rs))))

@@ -4,7 +4,6 @@
 --   day_said      what the calls of a list are told, one after the other
 --   day_leaves    the state after them
 use Rattle.std.specs.Prelude.{List, [], ◌∷◌}
-use Rattle.flow.specs.Limits.{least_scratch, most_marks}
 use Rattle.flow.specs.Meanings.{Meaning}
 use Rattle.flow.specs.declared.code.Code.{Code}
 use Rattle.meter.specs.declared.day.Call.{Call}
@@ -17,14 +16,14 @@ module _ {K : Type 0} (coded : K → Code) {C : Type 0} (m : Meaning C) where
   call_said s (call.Plan q) = plan_said (plan_answer m s q)
   call_said s (call.Packet k w) = packet_said (packet_answer m s (coded k) w)
   call_said s (call.Estimate k) = estimate_said (estimate_answer m s (coded k))
-  call_said s (call.List level) = list_said (list_answer m s level least_scratch most_marks)
+  call_said s (call.List level areas) = list_said (list_answer m s level areas.scratch areas.table)
   call_said s call.Restart = restart_said (restart_answer m s)
 
   abbrev pub call_leaves : State m.Model → Call K → State m.Model
   call_leaves s (call.Plan q) = plan_leaves m s q
   call_leaves s (call.Packet k w) = packet_leaves m s (coded k) w
   call_leaves s (call.Estimate k) = s
-  call_leaves s (call.List level) = s
+  call_leaves s (call.List level areas) = s
   call_leaves s call.Restart = restart_leaves m s
 
   abbrev pub day_said : State m.Model → List (Call K) → List Said

@@ -1,13 +1,12 @@
 // A day of calls on one meter.
 ghost use Rattle.std.specs.Prelude.{◌≡◌, map, IfOk};
-ghost use Rattle.flow.specs.Limits.{least_scratch, most_marks};
 ghost use Rattle.meter.specs.Ledgers.{Ledger};
 ghost use Rattle.meter.specs.States.{unplanned, list_answer};
 ghost use Rattle.meter.specs.Meters.{state_of};
 ghost use Rattle.meter.specs.Holding.{Holds};
 ghost use Rattle.meter.specs.Days.{said, Day};
 ghost use Rattle.meter.specs.Sequences.{call_said, call_leaves, day_said};
-ghost use Rattle.meter.specs.Tables.{told_list};
+ghost use Rattle.meter.specs.Tables.{ample, told_list};
 
 use crate::meter::Meter;
 use crate::record::Record;
@@ -18,13 +17,32 @@ use flow::refusal::Refusal;
 use frame::plan::Plan;
 use std::alloc::{AllocError, Global};
 
-// A call on a meter.
+// The lengths of the areas that a list is lent, its scratch in bytes and its table in records.
+#[derive(Debug, Clone, Copy, PartialEq, Eq)]
+pub struct Areas {
+    pub scratch: usize,
+    pub table: usize,
+}
+
+impl Areas {
+    // Areas that are long enough for every list.
+    pub fn ample() -> Areas
+        ensures { result ≡ ample }
+    {
+        Areas {
+            scratch: LEAST_SCRATCH,
+            table: MOST_MARKS,
+        }
+    }
+}
+
+// A call on a meter. A list is at a level, with areas of some lengths.
 #[derive(Debug, Drop)]
 pub enum Call<K> {
     Plan(Plan),
     Packet(K, u32),
     Estimate(K),
-    List(u64),
+    List(u64, Areas),
     Restart,
 }
 
@@ -55,23 +73,27 @@ impl<C: FrameCounter> Meter<C> {
             Call::Plan(plan) => self.plan(*plan).map(|()| Reply::Planned),
             Call::Packet(key, weight) => self.packet(key, *weight).map(Reply::Took),
             Call::Estimate(key) => self.estimate(key).map(Reply::Estimated),
-            Call::List(level) => self.listing(heap, *level)?.map(Reply::Listed),
+            Call::List(level, areas) => self.listing(heap, *level, *areas)?.map(Reply::Listed),
             Call::Restart => self.restart().map(|()| Reply::Restarted),
         };
         Ok(answered)
     }
 
-    // The list at a level, in memory of its own. A day goes on after a refusal and ends where memory does, so the two stay apart.
+    // The list at a level, in memory of its own. Areas that are longer than every list needs change no answer, so no longer ones are made.
+    // A day goes on after a refusal and ends where memory does, so the two stay apart.
     pub(crate) fn listing(
         &self,
         heap: Global,
         level: u64,
+        areas: Areas,
     ) -> Result<Result<Vec<Record>, Refusal>, AllocError>
-        ensures { IfOk result (λ r. told_list r ≡ list_answer C.meaning (state_of C.meaning self.now) level least_scratch most_marks) }
+        ensures { IfOk result (λ r. told_list r ≡ list_answer C.meaning (state_of C.meaning self.now) level areas.scratch areas.table) }
     {
         let mut scratch = [0u8; LEAST_SCRATCH];
         let mut table = [Record::default(); MOST_MARKS];
-        match self.list(level, &mut scratch, &mut table) {
+        let scratch = &mut scratch[..areas.scratch.min(LEAST_SCRATCH)];
+        let table = &mut table[..areas.table.min(MOST_MARKS)];
+        match self.list(level, scratch, table) {
             Ok(count) => Ok(Ok(table[..count].to_vec(heap)?)),
             Err(refusal) => Ok(Err(refusal)),
         }

@@ -15,6 +15,7 @@ use Rattle.text.specs.Reading.{word_of, after_word, first, second, third, small}
 use Rattle.flow.specs.Refusals.{number}
 use Rattle.meter.specs.declared.day.Call.{Call}
 use Rattle.meter.specs.declared.day.Call.TheVariants as call
+use Rattle.meter.specs.Tables.{ample}
 use Rattle.window.specs.declared.line.Form.{Form}
 use Rattle.window.specs.declared.line.Form.TheVariants as form
 use Rattle.window.specs.declared.line.Unread.{Unread}
@@ -60,7 +61,7 @@ module _ {K : Type 0} (text_of : K → List ℕ) where
   BareRead rest c (Err e) = ⊥
 
   abbrev pub ReadAs : ℕ → List ℕ → Form → Result (Call K) (Failure Unread) → Type 0
-  ReadAs level line form.List r = BareRead (after_word line) (call.List level) r
+  ReadAs level line form.List r = BareRead (after_word line) (call.List level ample) r
   ReadAs level line form.Restart r = BareRead (after_word line) call.Restart r
   ReadAs level line form.Estimate r = EstimateRead (after_word line) r
   ReadAs level line form.Packet r = PacketRead line r

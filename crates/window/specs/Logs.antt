@@ -19,6 +19,7 @@ use Rattle.shared.specs.Shared.{shared_opened, shared_meaning}
 use Rattle.meter.specs.States.{unplanned}
 use Rattle.meter.specs.Days.{Said}
 use Rattle.meter.specs.Sequences.{day_said}
+use Rattle.meter.specs.Tables.{ample}
 use Rattle.frame.specs.Plans.{judged}
 use Rattle.frame.specs.declared.layout.Layout.{Layout}
 use Rattle.meter.specs.declared.day.Call.{Call}
@@ -61,7 +62,7 @@ module _ {K : Type 0} (text_of : K → List ℕ) where
         LineTaken (level_of asks) line cs ns ds ms → LinesRead asks (lines ++ line ∷ []) ds ms
 
   abbrev pub LogRead : Option Asks → List (List ℕ) → List (Call K) → List Note → Type 0
-  LogRead asks lines calls ns = (cs : List (Call K)) × LinesRead asks lines cs ns × (calls ≡ cs ++ call.List (level_of asks) ∷ [])
+  LogRead asks lines calls ns = (cs : List (Call K)) × LinesRead asks lines cs ns × (calls ≡ cs ++ call.List (level_of asks) ample ∷ [])
 
 abbrev pub LayoutRead : ℕ → Option Asks → Option Layout → Type 0
 LayoutRead g None o = o ≡ None

@@ -18,7 +18,7 @@ abbrev pub asked_text : {K : Type 0} → (K → List ℕ) → Call K → List �
 asked_text text_of (call.Plan p) = plan_text p
 asked_text text_of (call.Packet k w) = codes "Packet " ++ text_of k ++ codes ", weight " ++ decimal w
 asked_text text_of (call.Estimate k) = codes "Estimate of " ++ text_of k
-asked_text text_of (call.List level) = codes "List at level " ++ decimal level
+asked_text text_of (call.List level areas) = codes "List at level " ++ decimal level
 asked_text text_of call.Restart = codes "Restart"
 
 abbrev pub reply_text : Reply → List ℕ

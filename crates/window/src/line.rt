@@ -6,7 +6,7 @@ ghost use Rattle.window.specs.Failures.{reason};
 
 use crate::written::WrittenKey;
 use inputs::failure::Failure;
-use meter::day::Call;
+use meter::day::{Areas, Call};
 use std::error::Error;
 use std::fmt;
 use text::{is_blank, next_word, small_number};
@@ -109,7 +109,7 @@ fn read_call<K: WrittenKey>(line: &[u8], level: u64) -> Result<Call<K>, Failure<
     match Form::of(word) {
         Form::List => {
             end_line(rest)?;
-            Ok(Call::List(level))
+            Ok(Call::List(level, Areas::ample()))
         }
         Form::Restart => {
             end_line(rest)?;

@@ -12,7 +12,7 @@ use flow::counter::FrameCounter;
 use frame::layout::Layout;
 use inputs::failure::Failure;
 use inputs::kind::CounterKind;
-use meter::day::{Answered, Call, day};
+use meter::day::{Answered, Areas, Call, day};
 use semi::SemiOrdered;
 use shared::SharedDeduction;
 use std::alloc::{AllocError, Global};
@@ -82,7 +82,7 @@ impl<K: WrittenKey> Log<K> {
         for line in lines {
             log.take_line(line, level)?;
         }
-        log.calls.push(Call::List(level))?;
+        log.calls.push(Call::List(level, Areas::ample()))?;
         Ok(log)
     }
 }

@@ -50,7 +50,7 @@ impl<'a, K: WrittenKey> fmt::Display for Asked<'a, K> {
                 let key = Written(key);
                 write!(f, "Estimate of {key}")
             }
-            Call::List(level) => write!(f, "List at level {level}"),
+            Call::List(level, _) => write!(f, "List at level {level}"),
             Call::Restart => write!(f, "Restart"),
         }
     }

@@ -1,9 +1,9 @@
 // The calls of a meter, but for lists.
-ghost use Rattle.std.specs.Prelude.{◌≡◌, ◌-◌, ◌*◌, ◌≤◌, ◌++◌, length, is_some, IfOk};
+ghost use Rattle.std.specs.Prelude.{◌≡◌, ℕ, ◌-◌, ◌*◌, ◌≤◌, ◌++◌, length, is_some, IfOk};
 ghost use Rattle.std.specs.Option.{option_map};
-ghost use Rattle.flow.specs.Answers.{told, Unchanged};
+ghost use Rattle.flow.specs.Answers.{told, refused, Unchanged};
 ghost use Rattle.frame.specs.Plans.{unit_of};
-ghost use Rattle.meter.specs.Ledgers.{Ledger, fresh, planned, noted, restarted};
+ghost use Rattle.meter.specs.Ledgers.{Ledger, packet_verdict, fresh, planned, noted, restarted};
 ghost use Rattle.meter.specs.Guarantees.{places_of, EstimateRight};
 ghost use Rattle.meter.specs.States.{unplanned, plan_answer, plan_leaves, packet_answer, packet_leaves, estimate_answer, restart_answer, restart_leaves};
 ghost use Rattle.meter.specs.Meters.{state_of};
@@ -96,6 +96,7 @@ impl<C: FrameCounter> Meter<C> {
         ensures state { (l : Ledger) → Holds C.meaning (state_of C.meaning self.old) l → state_of C.meaning self.new ≡ packet_leaves C.meaning (state_of C.meaning self.old) (K.coded key.now) weight }
         ensures unchanged { (l : Ledger) → Holds C.meaning (state_of C.meaning self.old) l → Unchanged result self.old self.new }
         ensures few_passes { (l : Ledger) → Holds C.meaning (state_of C.meaning self.old) l → IfOk result (λ x. x ≤ places_of l.plan) }
+        ensures refusals { (n : ℕ) → packet_verdict (state_of C.meaning self.old).plan weight 0 ≡ refused n → (told result ≡ refused n) × (self.new ≡ self.old) }
         ensures holds { (l : Ledger) → Holds C.meaning (state_of C.meaning self.old) l → Holds C.meaning (state_of C.meaning self.new) (noted l (K.coded key.now) weight) }
     {
         let Some(window) = &mut self.window else {

@@ -1,12 +1,12 @@
 // The steps of calls, on a window and its counter. Each says that the layout stays.
 // The counter stands beside the window, since a meter has one before it has a plan; code and weight come as its `add` has them.
-ghost use Rattle.std.specs.Prelude.{◌≡◌, ◌≤◌, [], IfOk, OnOk};
-ghost use Rattle.flow.specs.Answers.{told, Unchanged};
+ghost use Rattle.std.specs.Prelude.{◌≡◌, ◌≤◌, ℕ, Some, [], IfOk, OnOk};
+ghost use Rattle.flow.specs.Answers.{told, refused, Unchanged};
 ghost use Rattle.flow.specs.Meanings.{add_answer};
 ghost use Rattle.frame.specs.Plans.{block_of};
 ghost use Rattle.frame.specs.Marking.{leave};
 ghost use Rattle.frame.specs.Marked.{older, newer};
-ghost use Rattle.meter.specs.Ledgers.{Ledger};
+ghost use Rattle.meter.specs.Ledgers.{Ledger, packet_verdict};
 ghost use Rattle.meter.specs.Guarantees.{places_of};
 ghost use Rattle.meter.specs.States.{begun, counted, packet_answer, packet_leaves, estimate_in};
 ghost use Rattle.meter.specs.Meters.{windowed};
@@ -46,6 +46,7 @@ impl Window {
         ensures counter { (l : Ledger) → Holds C.meaning (windowed C.meaning counter.old self.old) l → Unchanged result counter.old counter.new }
         ensures unchanged { (l : Ledger) → Holds C.meaning (windowed C.meaning counter.old self.old) l → Unchanged result self.old self.new }
         ensures few_passes { (l : Ledger) → Holds C.meaning (windowed C.meaning counter.old self.old) l → IfOk result (λ x. x ≤ places_of l.plan) }
+        ensures refusals { (n : ℕ) → packet_verdict (Some self.old.layout.plan) weight 0 ≡ refused n → (told result ≡ refused n) × (self.new ≡ self.old) × (counter.new ≡ counter.old) }
     {
         if weight == 0 {
             return Err(Refusal::WeightZero);

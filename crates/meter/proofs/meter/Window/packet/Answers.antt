@@ -1,5 +1,6 @@
 -- The steps of a packet of lawful weight, one after the other.
 use Rattle.std.proofs.Common.{◌≡◌, ℕ, ◌≤◌, IfOk, Some, Result, sym, refl, ap, ◌∙◌, subst, arith}
+use Rattle.std.proofs.lemmas.Bool.Decides.{nat_tests}
 use Rattle.flow.specs.Answers.{Unchanged}
 use Rattle.flow.specs.declared.refusal.Refusal.{Refusal}
 use Rattle.frame.specs.declared.layout.Layout.{Layout}
@@ -48,4 +49,5 @@ returns g c = record {
   counter = λ l h. subst (λ (r : Result ℕ Refusal). Unchanged r c.args.counter.now c.count.new.counter) (sym (done g c l h).took) tt;
   unchanged = λ l h. subst (λ (r : Result ℕ Refusal). Unchanged r c.args.self.now c.count.new.self) (sym (done g c l h).took) tt;
   few_passes = λ l h. subst (λ (r : Result ℕ Refusal). IfOk r (λ x. x ≤ places_of l.plan)) (sym (done g c l h).took) (done g c l h).few;
+  refusals = λ n h. absurd (grind (arith, nat_tests, h, ap (λ (q : Plan). q.most) c.plan.ensures));
 }

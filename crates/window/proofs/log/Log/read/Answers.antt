@@ -2,6 +2,8 @@ use Rattle.std.proofs.Common.{◌≡◌, ℕ, ◌+◌, ◌<◌, List, [], ◌∷
 use Rattle.std.proofs.lemmas.List.{take_more, map-append}
 use Rattle.meter.specs.declared.day.Call.{Call}
 use Rattle.meter.specs.declared.day.Call.TheVariants as call
+use Rattle.meter.specs.declared.day.Areas.{Areas}
+use Rattle.meter.specs.Tables.{ample}
 use Rattle.window.specs.declared.heading.Asks.{Asks}
 use Rattle.window.specs.declared.log.Note.{Note}
 use Rattle.window.specs.Logs.{level_of, planned, LineTaken, LinesRead, none, more}
@@ -23,9 +25,9 @@ module _ {K : Type 0} (text_of : K → List ℕ) (asks : Option Asks) where
       subst (λ (x : List (List ℕ)). LinesRead text_of asks x ds ms) (sym e)
       (more (map text (take i ls)) (get_or ls i d).now cs ds ns ms r (subst (λ (l : ℕ). LineTaken text_of l (get_or ls i d).now cs ns ds ms) k t))
 
--- one call more, at the same level
-ends : {K : Type 0} (xs cs : List (Call K)) (l m : ℕ) → xs ≡ cs ++ call.List l ∷ [] → l ≡ m → xs ≡ cs ++ call.List m ∷ []
-ends xs cs l m h e = h ∙ ap (λ (k : ℕ). cs ++ call.List k ∷ []) e
+-- one call more, at the same level and with the same areas
+ends : {K : Type 0} (xs cs : List (Call K)) (l m : ℕ) (a : Areas) → xs ≡ cs ++ call.List l a ∷ [] → l ≡ m → a ≡ ample → xs ≡ cs ++ call.List m ample ∷ []
+ends xs cs l m a h e f = h ∙ (λ i. cs ++ call.List (e i) (f i) ∷ [])
 
 pub loop-line-init : goal.loop-line-init
 loop-line-init g c =
@@ -42,5 +44,5 @@ returns g c =
     let cs = c.loop-line.log.calls.items in (
       cs,
       subst (λ (x : List (Bor (List ℕ))). LinesRead t c.args.asks (map text x) cs c.loop-line.log.notes.items) (take_all c.loop-line.line-index c.args.lines.now (omega arith)) c.loop-line.invariant,
-      ends c.push.new.self.items cs c.level_of-level.result (level_of c.args.asks) c.in_ok-push.ensures.items c.level_of-level.ensures,
+      ends c.push.new.self.items cs c.level_of-level.result (level_of c.args.asks) c.ample.result c.in_ok-push.ensures.items c.level_of-level.ensures c.ample.ensures,
     )
