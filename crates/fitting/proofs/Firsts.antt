@@ -4,7 +4,7 @@ use Rattle.flow.specs.Answers.{Answer, answered, refused, after}
 use Rattle.flow.specs.Limits.{most_places, most_weight, most_packets, outside}
 use Rattle.flow.specs.Meanings.{Meaning, Fresh, Opens, Adds, open_answer, open_leaves, add_answer, add_leaves}
 use Rattle.flow.specs.declared.code.Code.{Code}
-use Rattle.fitting.specs.Firsts.{first_answer}
+use Rattle.fitting.specs.Firsts.{first_answer, first_leaves}
 
 apart : {A : Type 0} (n : ℕ) (a : A) → answered a ≡ refused n → ⊥
 apart n a e = let z : ◌≡◌ {A = ℕ} 0 1 = cc in omega arith
@@ -54,3 +54,7 @@ module _ {C : Type 0} (m : Meaning C) (opens : Opens m) (adds : Adds m) (x y : m
   first_refused k w c h =
       let none : eqb (m.packets y) most_packets ≡ false = ap (λ (t : ℕ). eqb t most_packets) opened.packets_is in
       first w (refused c) (add_refused (outside 1 most_weight w) (eqb (m.packets y) most_packets) c (m.passes y k w) w none (h opened.is_sound))
+
+  pub first_left : (z : m.Model) (k : Code) (w : ℕ) → (m.sound y → z ≡ add_leaves m y k w) → z ≡ first_leaves m x n s k w
+  first_left z k w g =
+      g opened.is_sound ∙ ap (λ (v : m.Model). add_leaves m v k w) left ∙ ap (λ (a : Answer (Unit {0})). after a x (add_leaves m (open_leaves m x n s) k w)) told

@@ -2,7 +2,7 @@
 ghost use Rattle.std.specs.Prelude.{◌≡◌};
 ghost use Rattle.flow.specs.Answers.{told};
 ghost use Rattle.flow.specs.Meanings.{open_answer, open_leaves};
-ghost use Rattle.fitting.specs.Firsts.{first_answer};
+ghost use Rattle.fitting.specs.Firsts.{first_answer, first_leaves};
 
 use flow::code::Code;
 use flow::counter::FrameCounter;
@@ -25,7 +25,8 @@ pub fn first_estimate<C: FrameCounter>(
     code: Code,
     weight: u32,
 ) -> Result<u64, Refusal>
-    ensures { told result ≡ first_answer (C.meaning.greatest (C.meaning.model counter.old)) places step weight }
+    ensures answer { told result ≡ first_answer (C.meaning.greatest (C.meaning.model counter.old)) places step weight }
+    ensures state { C.meaning.model counter.new ≡ first_leaves C.meaning (C.meaning.model counter.old) places step code weight }
 {
     prepare(counter, places, step)?;
     counter.add(code, weight)?;
