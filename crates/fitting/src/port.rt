@@ -1,7 +1,8 @@
 // Port keys: two bytes, the number of a TCP or UDP port.
-ghost use Rattle.std.specs.Prelude.{◌≡◌, ◌+◌, ◌*◌, ◌^◌, ◌<◌, length, slice_index};
+ghost use Rattle.std.specs.Prelude.{◌≡◌, ◌^◌, ◌<◌, cond, length, Some, None, ◌==◌};
 ghost use Rattle.std.proofs.Common.{arith};
 ghost use Rattle.flow.specs.Keys.{comes_back};
+ghost use Rattle.flow.specs.Spellings.{be16};
 
 use flow::code::Code;
 use flow::key::FlowKey;
@@ -21,13 +22,11 @@ impl FlowKey for Port {
 
     ghost coded = { λ k. record { high = 0; low = k.number } };
 
-    ghost spells = { λ k bytes. (length bytes ≡ 2) × (k.number ≡ slice_index bytes 0 * 256 + slice_index bytes 1) };
+    ghost spelled = { λ bytes. cond (length bytes == 2) (Some (record { high = 0; low = be16 bytes 0 })) None };
 
     ghost back = { comes_back _ (λ x k h. Prim.grind (arith, Self.row.coded.inj)) };
 
-    ghost one = { Prim.grind (arith, Self.row.coded.inj) };
-
-    ghost wide = { λ k bytes h. h.0 };
+    ghost wide = { λ bytes code h. Prim.grind (arith) };
 
     fn code(&self) -> Code {
         Code {

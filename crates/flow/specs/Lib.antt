@@ -3,6 +3,7 @@ pub mod Limits
 pub mod Refusals
 pub mod Answers
 pub mod Keys
+pub mod Spellings
 pub mod Tallies
 pub mod Openings
 pub mod Meanings

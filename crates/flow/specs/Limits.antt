@@ -1,4 +1,4 @@
--- The limits of counters, plans and lists. Assumes nothing.
+-- The limits of counters, plans, lists and tapes. Assumes nothing.
 --   most_places     the places of a counter
 --   most_step       the greatest step that a kind may allow
 --   most_weight     the weight of a packet
@@ -6,6 +6,8 @@
 --   most_window     the packets of a window
 --   most_marks      the marks of a meter: two frames with fewer marks each than there are places
 --   least_scratch   the bytes of scratch that a list asks for
+--   most_tape       the bytes of a tape
+--   least_text      the bytes of text area that a command asks for
 --   outside         a number lies below the one limit or above the other
 use Rattle.std.specs.Prelude.{ℕ, Bool, ◌||◌, nat_lt}
 
@@ -29,6 +31,12 @@ most_marks = 510
 
 abbrev pub least_scratch : ℕ
 least_scratch = 510
+
+abbrev pub most_tape : ℕ
+most_tape = 65536
+
+abbrev pub least_text : ℕ
+least_text = 40960
 
 abbrev pub outside : ℕ → ℕ → ℕ → Bool
 outside low high x = nat_lt x low || nat_lt high x

@@ -1,8 +1,8 @@
 // Account keys: ten ASCII digits.
-ghost use Rattle.std.specs.Prelude.{◌≡◌, ◌^◌, ◌<◌, length};
-ghost use Rattle.std.specs.Str.Parse.{digits_value, AllDigits};
+ghost use Rattle.std.specs.Prelude.{◌^◌, ◌<◌};
 ghost use Rattle.std.proofs.Common.{arith};
 ghost use Rattle.flow.specs.Keys.{comes_back};
+ghost use Rattle.flow.specs.Spellings.{account_spelled};
 
 use crate::code::Code;
 use crate::key::FlowKey;
@@ -25,13 +25,11 @@ impl FlowKey for Account {
 
     ghost coded = { λ k. record { high = 0; low = k.number } };
 
-    ghost spells = { λ k bytes. (length bytes ≡ 10) × AllDigits 10 bytes × (k.number ≡ digits_value 10 bytes) };
+    ghost spelled = { account_spelled };
 
     ghost back = { comes_back _ (λ x k h. Prim.grind (arith, Self.row.coded.inj)) };
 
-    ghost one = { Prim.grind (arith, Self.row.coded.inj) };
-
-    ghost wide = { λ k bytes h. h.0 };
+    ghost wide = { λ bytes code h. Prim.grind (arith) };
 
     fn code(&self) -> Code {
         Code {

@@ -1,9 +1,10 @@
 // What every kind of flow key promises.
-ghost use Rattle.std.specs.Prelude.{◌≡◌, ℕ, List, length, Ok, MatchBool, Result, ◌≢◌};
+ghost use Rattle.std.specs.Prelude.{◌≡◌, ℕ, List, length, Ok, Some, MatchBool, Option, Result, ◌≢◌};
 ghost use Rattle.flow.specs.declared.code.Code.{Code as Coded};
 ghost use Rattle.flow.specs.declared.refusal.Refusal.{Refusal as Refused};
 ghost use Rattle.flow.specs.Codes.{same};
-ghost use Rattle.flow.specs.Keys.{MadeOf, ReadFrom};
+ghost use Rattle.flow.specs.Answers.{told, answer_map};
+ghost use Rattle.flow.specs.Keys.{MadeOf, read_answer};
 
 use crate::code::Code;
 use crate::refusal::Refusal;
@@ -18,8 +19,8 @@ pub trait FlowKey: Sized {
     // the code of a key
     ghost coded: { Self → Coded };
 
-    // a key is spelled by these tape bytes
-    ghost spells: { Self → List ℕ → Type 0 };
+    // the code of the key that tape bytes spell, if they spell one
+    ghost spelled: { List ℕ → Option Coded };
 
     // The code of the key.
     fn code(&self) -> Code
@@ -31,7 +32,7 @@ pub trait FlowKey: Sized {
 
     // The key that these bytes spell.
     fn read(bytes: &[u8]) -> Result<Self, Refusal>
-        ensures { ReadFrom spells bytes.now result };
+        ensures { answer_map coded (told result) ≡ read_answer (spelled bytes.now) };
 
     // The constant `BYTES`, as a call.
     final fn key_bytes() -> usize
@@ -43,11 +44,8 @@ pub trait FlowKey: Sized {
     // the key made of a key's code is that key
     ghost back: { (k : Self) (r : Result Self Refused) → MadeOf coded (coded k) r → r ≡ Ok k };
 
-    // no bytes spell two keys
-    ghost one: { (j k : Self) (bytes : List ℕ) → spells j bytes → spells k bytes → j ≡ k };
-
     // only so many bytes spell a key
-    ghost wide: { (k : Self) (bytes : List ℕ) → spells k bytes → length bytes ≡ BYTES };
+    ghost wide: { (bytes : List ℕ) (code : Coded) → spelled bytes ≡ Some code → length bytes ≡ BYTES };
 }
 
 // Whether two keys have one code.

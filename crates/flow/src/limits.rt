@@ -1,4 +1,4 @@
-// The limits of counters, plans and lists.
+// The limits of counters, plans, lists and tapes.
 
 // The places of a counter.
 pub const MOST_PLACES: usize = 256;
@@ -20,3 +20,9 @@ pub const MOST_MARKS: usize = 510;
 
 // The bytes of scratch that a list asks for.
 pub const LEAST_SCRATCH: usize = 510;
+
+// The bytes of a tape.
+pub const MOST_TAPE: usize = 65_536;
+
+// The bytes of text area that a command asks for: more than the lines of the longest list.
+pub const LEAST_TEXT: usize = 40_960;

@@ -1,8 +1,9 @@
 // IPv4 prefix keys: four bytes of address and one of length.
-ghost use Rattle.std.specs.Prelude.{◌≡◌, ◌+◌, ◌-◌, ◌*◌, ◌%◌, ◌^◌, ◌<◌, ◌≤◌, length, MatchBool, MatchResult, ◌≢◌, slice_index};
+ghost use Rattle.std.specs.Prelude.{◌≡◌, ◌-◌, ◌%◌, ◌^◌, ◌<◌, ◌≤◌, MatchBool, MatchResult, ◌≢◌};
 ghost use Rattle.std.proofs.Common.{arith};
 ghost use Rattle.flow.specs.Keys.{comes_back};
 ghost use Rattle.flow.specs.Refusals.{number};
+ghost use Rattle.flow.specs.Spellings.{prefix_spelled};
 
 use crate::code::Code;
 use crate::key::FlowKey;
@@ -48,13 +49,11 @@ impl FlowKey for Prefix {
 
     ghost coded = { λ k. record { high = k.len; low = k.address } };
 
-    ghost spells = { λ k bytes. (length bytes ≡ 5) × (k.address ≡ slice_index bytes 0 * 16777216 + slice_index bytes 1 * 65536 + slice_index bytes 2 * 256 + slice_index bytes 3) × (k.len ≡ slice_index bytes 4) };
+    ghost spelled = { prefix_spelled };
 
     ghost back = { comes_back _ (λ x k h. Prim.grind (arith, Self.row.coded.inj)) };
 
-    ghost one = { Prim.grind (arith, Self.row.coded.inj) };
-
-    ghost wide = { λ k bytes h. h.0 };
+    ghost wide = { λ bytes code h. Prim.grind (arith) };
 
     fn code(&self) -> Code {
         Code {

@@ -1,12 +1,14 @@
 -- What the ten digits of an account say of its number.
-use Rattle.std.proofs.Common.{◌≡◌, ℕ, ◌+◌, ◌*◌, ◌/◌, ◌^◌, ◌<◌, List, [], ◌∷◌, length, refl, sym, ap, ◌∙◌, subst, arith}
+use Rattle.std.proofs.Common.{◌≡◌, ℕ, ◌+◌, ◌*◌, ◌/◌, ◌^◌, ◌<◌, ◌≤◌, true, List, [], ◌∷◌, length, refl, sym, ap, ◌∙◌, subst, arith}
 use native.Mathlib.Nat.{pow-suc}
 use Rattle.std.specs.Char.{digit_value}
 use Rattle.std.specs.Str.Parse.{digits_value, digits_value_after, AllDigits}
 use Rattle.std.proofs.lemmas.Int.Digits.{digits_value-lt}
+use Rattle.std.proofs.lemmas.Bool.Decides.{nat_tests}
 use Rattle.std.proofs.lemmas.Nat.{div-mul-add}
 use Rattle.std.proofs.lemmas.Str.{digit_value_digit}
 use Rattle.std.proofs.lemmas.Str.Parse.{digit_from_value}
+use Rattle.flow.specs.Spellings.{all_digits}
 
 -- the digits behind a number shift it
 digits_value_after_is : (n : ℕ) (ds : List ℕ) → digits_value_after 10 n ds ≡ n * 10 ^ length ds + digits_value 10 ds
@@ -42,3 +44,12 @@ same_digits (x ∷ xs) (y ∷ ys) l p q v =
     let t : xs ≡ ys = same_digits xs ys k p.1 q.1 o.1 in
     let h : x ≡ y = omega (arith, o.0, digit_value_digit x (digit_from_value x p.0), digit_value_digit y (digit_from_value y q.0)) in
     cc
+
+-- bytes that are digits by the test
+pub all_shown : (bytes : List ℕ) → all_digits bytes ≡ true → AllDigits 10 bytes
+all_shown [] h = tt
+all_shown (c ∷ cs) h =
+    let low : 48 ≤ c = grind (arith, nat_tests, h) in
+    let high : c ≤ 57 = grind (arith, nat_tests, h) in
+    let rest : all_digits cs ≡ true = grind (arith, nat_tests, h) in
+    (omega (arith, digit_value_digit c (low, high)), all_shown cs rest)

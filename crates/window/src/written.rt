@@ -2,9 +2,8 @@
 ghost use Rattle.std.specs.Prelude.{◌≡◌, ℕ, ◌<◌, List, Some, MatchOption, slice_index, position, ◌==◌};
 ghost use Rattle.std.specs.Fmt.{WritesOnOk};
 ghost use Rattle.flow.specs.declared.code.Code.{Code as Coded};
-ghost use Rattle.flow.specs.Keys.{ReadFrom};
 ghost use Rattle.window.specs.Laws.{single_prefix, single_account};
-ghost use Rattle.window.specs.Texts.{prefix_text, account_text, Writes, WritesInFront, WritesFive};
+ghost use Rattle.window.specs.Texts.{prefix_text, account_text, ReadFrom, Writes, WritesInFront, WritesFive};
 
 use flow::account::Account;
 use flow::code::Code;
@@ -25,7 +24,7 @@ pub trait WrittenKey: FlowKey + Drop {
 
     // The key that a word writes.
     fn of_word(word: &[u8]) -> Result<Self, Refusal>
-        ensures { ReadFrom (λ k w. text (Self.coded k) ≡ w) word.now result };
+        ensures { ReadFrom (λ k. text (Self.coded k)) word.now result };
 
     // no word writes two keys: keys with one written form have one code
     ghost single: { (j k : Self) → text (Self.coded j) ≡ text (Self.coded k) → Self.coded j ≡ Self.coded k };

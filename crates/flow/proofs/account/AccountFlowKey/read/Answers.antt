@@ -1,15 +1,20 @@
-use Rattle.std.proofs.Common.{◌≡◌, ◌+◌, ◌*◌, ◌^◌, ◌<◌, length, get_or, take, refl, ap, ◌∙◌, subst, arith, length-take}
+use Rattle.std.proofs.Common.{◌≡◌, false, true, ◌+◌, ◌*◌, ◌^◌, ◌<◌, length, get_or, take, ap, ◌∙◌, subst, arith, length-take}
 use Rattle.std.specs.Char.{digit_value}
 use Rattle.std.specs.Str.Parse.{digits_value, AllDigits}
 use Rattle.std.proofs.lemmas.Int.Digits.{digits_value_more, digits_more, digits_value-lt}
 use Rattle.std.proofs.lemmas.List.{take_all}
-use Rattle.std.proofs.lemmas.Str.Parse.{digit_at}
 use Rattle.std.proofs.lemmas.Str.{digit_value_digit}
+use Rattle.std.proofs.lemmas.Bool.Decides.{nat_tests}
+use Rattle.flow.specs.Spellings.{is_digit, all_digits}
+use Rattle.flow.proofs.Digits.{all_told, not_all}
 use Rattle.flow.proofs.account.AccountFlowKey.read.Goals as goal
 
 pub returns-then-not-is_ascii_digit : goal.returns-then-not-is_ascii_digit
 returns-then-not-is_ascii_digit c =
-    (refl, λ k s. let d = digit_at c.args.bytes.now c.loop-b.b-index s.1 (omega arith) in grind (arith, d, c.if-not-is_ascii_digit.ensures.cases))
+    let bs = c.args.bytes.now in
+    let other : is_digit (get_or bs c.loop-b.b-index 0) ≡ false = grind (arith, nat_tests, c.if-not-is_ascii_digit.ensures.cases) in
+    let not : all_digits bs ≡ false = not_all bs c.loop-b.b-index (omega arith) other in
+    grind (arith, nat_tests, not)
 
 pub loop-b-preserved : goal.loop-b-preserved
 loop-b-preserved c =
@@ -26,6 +31,8 @@ loop-b-preserved c =
 
 pub returns : goal.returns
 returns c =
-    let e : take c.loop-b.b-index c.args.bytes.now ≡ c.args.bytes.now = take_all c.loop-b.b-index c.args.bytes.now (omega arith) in
-    subst (λ l. (length l ≡ 10) × AllDigits 10 l × (c.loop-b.number ≡ digits_value 10 l)) e
-    (ap length e ∙ c.loop-b.invariant.3, c.loop-b.invariant.0, c.loop-b.invariant.1)
+    let bs = c.args.bytes.now in
+    let e : take c.loop-b.b-index bs ≡ bs = take_all c.loop-b.b-index bs (omega arith) in
+    let all : all_digits bs ≡ true = all_told bs (subst (AllDigits 10) e c.loop-b.invariant.0) in
+    let n : c.loop-b.number ≡ digits_value 10 bs = c.loop-b.invariant.1 ∙ ap (digits_value 10) e in
+    grind (arith, nat_tests, all, n, c.loop-b.invariant.3)

@@ -1,27 +1,38 @@
-use Rattle.std.proofs.Common.{◌≡◌, ℕ, List, length, Result, Ok, Err, sym, ◌∙◌, subst}
-use Rattle.std.specs.Str.Parse.{digits_value, AllDigits}
+use Rattle.std.proofs.Common.{◌≡◌, false, true, ◌&&◌, eqb, ℕ, List, length, Result, Ok, Err, sym, ap, ◌∙◌, subst, arith}
+use Rattle.std.proofs.lemmas.Bool.Decides.{nat_tests}
+use Rattle.std.specs.Str.Parse.{AllDigits}
 use Rattle.flow.specs.declared.account.Account.{Account}
+use Rattle.flow.specs.declared.code.Code.{Code}
 use Rattle.flow.specs.declared.refusal.Refusal.{Refusal}
-use Rattle.flow.specs.Keys.{ReadFrom}
-use Rattle.window.specs.Texts.{account_text}
+use Rattle.flow.specs.Answers.{told, answer_map}
+use Rattle.flow.specs.Keys.{read_answer}
+use Rattle.flow.specs.Spellings.{all_digits, account_spelled}
+use Rattle.flow.proofs.Digits.{all_told}
+use Rattle.window.specs.Texts.{account_text, ReadFrom}
 use Rattle.window.specs.Laws.{ten_digits_of}
-use Rattle.window.proofs.Accounts.{same_digits}
+use Rattle.window.proofs.Accounts.{same_digits, all_shown}
+use Rattle.window.proofs.Spelled.{read_passed, read_failed}
 use Rattle.window.proofs.written.AccountWrittenKey.of_word.Goals as goal
 
-abbrev text_of : Account → List ℕ
-text_of k = account_text (record { high = 0; low = k.number })
-
-abbrev Spells : Account → List ℕ → Type 0
-Spells k bytes = (length bytes ≡ 10) × AllDigits 10 bytes × (k.number ≡ digits_value 10 bytes)
+abbrev coded : Account → Code
+coded k = record { high = 0; low = k.number }
 
 -- what spells an account on a tape is its written form
-read_as_written : (word : List ℕ) (r : Result Account Refusal) → ReadFrom Spells word r → ReadFrom (λ k w. text_of k ≡ w) word r
-read_as_written word (Ok k) h = let t = ten_digits_of k.number k.short in same_digits (text_of k) word (t.0 ∙ sym h.0) t.1 h.1 (t.2 ∙ h.2)
-read_as_written word (Err e) h = (
-  h.0,
-  λ k w. let t = ten_digits_of k.number k.short in
-      h.1 k (subst (λ (l : List ℕ). (length l ≡ 10) × AllDigits 10 l × (k.number ≡ digits_value 10 l)) w (t.0, t.1, sym t.2)),
-)
+read_as_written : (word : List ℕ) (r : Result Account Refusal) → answer_map coded (told r) ≡ read_answer (account_spelled word) → ReadFrom (λ k. account_text (coded k)) word r
+read_as_written word (Ok k) h =
+    let p = read_passed _ _ (coded k) h in
+    let t = ten_digits_of k.number k.short in
+    let ten : length word ≡ 10 = grind (arith, nat_tests, p.0) in
+    let all : all_digits word ≡ true = grind (arith, nat_tests, p.0) in
+    same_digits (account_text (coded k)) word (t.0 ∙ sym ten) t.1 (all_shown word all) (t.2 ∙ ap (λ (c : Code). c.low) p.1)
+read_as_written word (Err e) h =
+    let p = read_failed _ _ _ h in (
+      p.0,
+      λ k w.
+          let t = subst (λ (l : List ℕ). (length l ≡ 10) × AllDigits 10 l) w (let t = ten_digits_of k.number k.short in (t.0, t.1)) in
+          let not : (eqb (length word) 10 && all_digits word) ≡ false = p.1 in
+          absurd (grind (arith, nat_tests, not, t.0, all_told word t.1)),
+    )
 
 pub returns : goal.returns
 returns c = read_as_written c.args.word.now c.read.result c.read.ensures
