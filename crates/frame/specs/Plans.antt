@@ -4,6 +4,7 @@
 --   wrapped       the offset of the next packet, with n packets in the present frame: 0 where it is full
 --   next_offset   the offset after i: 0 behind the last of a frame
 --   judged        what is wrong with the numbers of a plan, in the order of the checks; g is the counter's greatest step
+--   level_judged  what is wrong with the level of a list under a plan
 --   Fair          what the numbers of an accepted plan keep
 use Rattle.std.specs.Prelude.{◌≡◌, ℕ, ◌+◌, ◌-◌, ◌*◌, ◌/◌, ◌%◌, ◌<◌, ◌≤◌, cond, not, ◌||◌, ◌==◌, nat_le, nat_lt}
 use Rattle.flow.specs.Answers.{Answer, answered, refused}
@@ -31,6 +32,9 @@ judged g p =
     (cond (p.blocks == 0 || not (p.window % p.blocks == 0)) (refused 7)
     (cond (nat_le (p.places * p.most) (p.blocks * (p.most + (p.step - 1)))) (refused 8)
     (answered tt))))))
+
+abbrev pub level_judged : Plan → ℕ → Answer (Unit {0})
+level_judged p level = cond (nat_lt level (3 * unit_of p)) (refused 11) (answered tt)
 
 pub record Fair (p : Plan) : Type 0 where
   pub stands : 1 ≤ p.places

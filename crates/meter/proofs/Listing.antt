@@ -2,14 +2,14 @@
 use Rattle.std.proofs.Common.{◌≡◌, ℕ, ◌+◌, ◌*◌, ◌<◌, ◌≤◌, Bool, true, false, cond, leb, List, [], ◌∷◌, ◌++◌, length, get_or, take, Some, None, Option, sym, refl, ap, ◌∙◌, subst, append-nil, arith, take_all, ltb, min}
 use lib.Seq.{take-append-le}
 use Rattle.std.proofs.lemmas.List.{take_more, take-append-drop, length-take}
-use Rattle.std.proofs.lemmas.Bool.{cond-true, cond-false, le-leb, lt-leb}
+use Rattle.std.proofs.lemmas.Bool.{cond-true, cond-false, le-leb, lt-leb, ltb-false}
 use Rattle.std.proofs.lemmas.Bool.Decides.{nat_tests}
 use Rattle.flow.specs.Answers.{Answer, answered, refused}
 use Rattle.flow.specs.Limits.{least_scratch, most_marks}
 use Rattle.flow.specs.Meanings.{Meaning}
 use Rattle.flow.specs.declared.code.Code.{Code}
 use Rattle.frame.specs.declared.plan.Plan.{Plan}
-use Rattle.frame.specs.Plans.{unit_of}
+use Rattle.frame.specs.Plans.{unit_of, level_judged}
 use Rattle.meter.specs.declared.record.Record.{Record}
 use Rattle.meter.specs.Ledgers.{Ledger}
 use Rattle.meter.specs.Guarantees.{ListsUnder}
@@ -40,6 +40,14 @@ module _ (est : Code → ℕ) (level : ℕ) (ks : List Code) (i : ℕ) (d : Code
 
   pub list_high : level ≤ e → rs ++ record { code = get_or ks i d; estimate = e } ∷ [] ≡ listing est level (take (i + 1) ks)
   list_high high = sym (more ∙ ap (λ (xs : List Record). rs ++ xs) (cond-true _ _ _ (le-leb level e high)))
+
+-- a level that a plan takes is three units or more
+pub level_high : (p : Plan) (level : ℕ) → ◌≡◌ {A = Answer (Unit {0})} (answered tt) (level_judged p level) → 3 * unit_of p ≤ level
+level_high p level = by (ltb level (3 * unit_of p)) refl
+  where
+    by : (b : Bool) → ltb level (3 * unit_of p) ≡ b → ◌≡◌ {A = Answer (Unit {0})} (answered tt) (cond b (refused 11) (answered tt)) → 3 * unit_of p ≤ level
+    by true e h = cc
+    by false e h = ltb-false level (3 * unit_of p) e
 
 module _ {C : Type 0} (m : Meaning C) (s : State m.Model) (p : Plan) (level : ℕ) where
   -- a list that was written keeps the guarantee

@@ -1,7 +1,7 @@
 // What an accepted plan decides: which plans are accepted, where blocks lie, which packets are marked.
 ghost use Rattle.std.specs.Prelude.{◌≡◌, ◌/◌, ◌^◌, ◌≤◌};
 ghost use Rattle.flow.specs.Answers.{told};
-ghost use Rattle.frame.specs.Plans.{judged, block_of, unit_of, next_offset};
+ghost use Rattle.frame.specs.Plans.{judged, block_of, unit_of, next_offset, level_judged};
 ghost use Rattle.frame.specs.Marking.{due};
 ghost use Rattle.frame.specs.Layouts.{Laid};
 
@@ -62,6 +62,16 @@ impl Layout {
         ensures size { (1 ≤ result) × (result ≤ 2 ^ 44) }
     {
         self.unit
+    }
+
+    // Whether a list can be asked for at this level: only flows of three units or more are sure to have a mark.
+    pub fn check_level(&self, level: u64) -> Result<(), Refusal>
+        ensures { told result ≡ level_judged self.now.plan level }
+    {
+        if level < 3 * self.unit {
+            return Err(Refusal::LevelTooLow);
+        }
+        Ok(())
     }
 
     // The block of the packet at this offset, counted from 0 in its frame.

@@ -1,5 +1,5 @@
 // The calls of a meter, but for lists.
-ghost use Rattle.std.specs.Prelude.{◌≡◌, ℕ, ◌-◌, ◌*◌, ◌≤◌, ◌++◌, length, is_some, IfOk};
+ghost use Rattle.std.specs.Prelude.{◌≡◌, ℕ, ◌-◌, ◌*◌, ◌^◌, ◌≤◌, ◌++◌, length, is_some, IfOk, MatchOption};
 ghost use Rattle.std.specs.Option.{option_map};
 ghost use Rattle.flow.specs.Answers.{told, refused, Unchanged};
 ghost use Rattle.frame.specs.Plans.{unit_of};
@@ -44,7 +44,8 @@ impl<C: FrameCounter> Meter<C> {
 
     // The unit of the plan: an estimate is above the true volume by less than four units.
     pub fn unit(&self) -> Option<u64>
-        ensures { result ≡ option_map unit_of (state_of C.meaning self.now).plan }
+        ensures value { result ≡ option_map unit_of (state_of C.meaning self.now).plan }
+        ensures small { MatchOption result (Unit {0}) (λ t. t ≤ 2 ^ 44) }
     {
         self.window.as_ref().map(|window| window.layout.unit())
     }

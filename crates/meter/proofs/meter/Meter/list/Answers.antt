@@ -1,12 +1,11 @@
 -- The records in front of the table are the list by the rules.
-use Rattle.std.proofs.Common.{◌≡◌, ◌*◌, ◌≤◌, ◌++◌, length, take, drop, Option, refl, sym, ap, ◌∙◌, subst, arith}
-use Rattle.frame.specs.Plans.{unit_of}
+use Rattle.std.proofs.Common.{◌≡◌, ◌++◌, length, take, drop, Option, refl, sym, ap, ◌∙◌, subst}
 use Rattle.meter.specs.declared.meter.Window.{Window}
 use Rattle.meter.specs.Guarantees.{ListsUnder}
 use Rattle.meter.specs.States.{list_in}
 use Rattle.meter.specs.Meters.{windowed, state_in}
 use Rattle.meter.specs.Holding.{Holds}
-use Rattle.meter.proofs.Listing.{list_right, taken-front}
+use Rattle.meter.proofs.Listing.{level_high, list_right, taken-front}
 use Rattle.meter.proofs.meter.Meter.list.Goals as goal
 
 pub returns-clause-bounds : goal.returns-clause-bounds
@@ -15,7 +14,7 @@ returns-clause-bounds g c =
     let x = c.args.self.now.counter in
     let s = windowed m x c.in-Some.window in
     let p = c.in-Some.window.layout.plan in
-    let high : 3 * unit_of p ≤ c.args.level = omega (arith, c.unit.ensures.value, c.if-level-unit.false) in
+    let high = level_high p c.args.level c.in_ok-check_level.ensures in
     let rs = list_in m s p c.args.level in
     let n = c.len-count.result in
     let behind = drop n c.args.table.now in
