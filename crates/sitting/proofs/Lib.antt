@@ -1,0 +1,6 @@
+pub mod Answering
+pub mod Driving
+pub mod Lengths
+pub mod Pasting
+pub mod Promising
+pub mod Turning

@@ -1,0 +1,7 @@
+pub mod Lines
+pub mod Stages
+pub mod Courses
+pub mod Turns
+pub mod Tapes
+pub mod Markings
+pub mod Sittings

@@ -1,0 +1,78 @@
+-- The guarantee over a whole tape, in terms of its commands, their answers and true volumes alone. Assumes nothing.
+--   ledger_after   the ledger after what a command asks: what the calls alone decide, the roll of accepted packets among it
+--   AskRight       what an ask may be answered under a ledger: a call on the meter what is right for it, by the true volumes of the roll
+--   AnswerRight    what a command may be answered
+--   is_over        no command is taken any more: the text area is too short, or the sitting is done
+--   ledger_at      the ledger after what stands on the tape
+--   LineRight      what may be said of what stands on the tape
+--   after_line     the course after that, with the ledger in place of the meter
+--   standing       what stands on the tape at the place of a course
+--   Marks          what may be said of the commands of a tape, one after the other, until it is over
+--   Marked         what may be printed for a whole tape over a counter of this greatest step: the guarantee
+--   ledger_left    the ledger after a turn
+use Rattle.std.specs.Prelude.{◌≡◌, ℕ, Bool, true, false, List, [], ◌∷◌, ◌++◌, Option, nat_lt}
+use Rattle.flow.specs.Answers.{Answer, answered, refused, answer_map, after}
+use Rattle.flow.specs.Limits.{least_text}
+use Rattle.flow.specs.declared.code.Code.{Code}
+use Rattle.meter.specs.declared.day.Areas.{Areas}
+use Rattle.meter.specs.declared.record.Record.{Record}
+use Rattle.meter.specs.Days.{Said, step, Right}
+use Rattle.meter.specs.Ledgers.{Ledger, fresh, level_verdict}
+use Rattle.tape.specs.declared.command.Command.{Command}
+use Rattle.tape.specs.Readings.{Found, found, stopped, next_in}
+use Rattle.sitting.specs.declared.reply.Reply.{Reply}
+use Rattle.sitting.specs.declared.reply.Reply.TheVariants as reply
+use Rattle.sitting.specs.declared.stage.Stage.{Stage}
+use Rattle.sitting.specs.declared.stage.Stage.TheVariants as stage
+use Rattle.sitting.specs.Courses.{Course, begun, Ask, calls, sets, closes, asked, advanced, broken}
+use Rattle.sitting.specs.Tapes.{lines_text, last_text}
+use Rattle.sitting.specs.Turns.{Line, replied, Turn}
+
+abbrev pub ledger_after : Ledger → Answer Ask → Ledger
+ledger_after l (answered (calls q)) = step (λ k. k) l q
+ledger_after l (answered (sets h)) = l
+ledger_after l (answered closes) = l
+ledger_after l (refused n) = l
+
+abbrev pub AskRight : Ledger → Command (List ℕ) → Ask → Answer (Reply (List Record)) → Type 0
+AskRight l c (calls q) a = (x : Said) × Right (λ k. k) l q x × (a ≡ replied c x)
+AskRight l c (sets h) a = a ≡ answer_map (λ x. reply.LevelSet h) (level_verdict l.plan h)
+AskRight l c closes a = a ≡ answered reply.Closed
+
+abbrev pub AnswerRight : Ledger → Command (List ℕ) → Answer Ask → Answer (Reply (List Record)) → Type 0
+AnswerRight l c (answered q) a = AskRight l c q a
+AnswerRight l c (refused n) a = a ≡ refused n
+
+abbrev pub is_over : ℕ → Stage → Bool
+is_over text stage.Unplanned = nat_lt text least_text
+is_over text (stage.Planned s) = nat_lt text least_text
+is_over text (stage.Done e) = true
+
+-- by the codes that bytes spell, with a scratch and a table of some lengths
+module _ (spelled : List ℕ → Option Code) (areas : Areas) where
+  abbrev pub ledger_at : Ledger → Stage → Found → Ledger
+  ledger_at l s (found offset c end) = ledger_after l (asked spelled areas s c)
+  ledger_at l s (stopped n offset) = l
+
+  abbrev pub LineRight : Course Ledger → Found → Line → Type 0
+  LineRight s (found offset c end) t = (t.offset ≡ offset) × AnswerRight s.meter c (asked spelled areas s.stage c) t.answer
+  LineRight s (stopped n offset) t = t ≡ record { offset = offset; answer = refused n }
+
+  abbrev pub after_line : Course Ledger → Found → Line → Course Ledger
+  after_line s (found offset c end) t = advanced s c end t.answer (ledger_at s.meter s.stage (found offset c end))
+  after_line s (stopped n offset) t = broken s
+
+  -- for keys of so many bytes and kinds of these numbers, a tape, and a text area of some length
+  module _ (key_bytes key_kind counter_kind : ℕ) (tape : List ℕ) (text : ℕ) where
+    abbrev pub standing : {M : Type 0} → Course M → Found
+    standing s = next_in key_bytes key_kind counter_kind s.place tape
+
+    abbrev pub Marks : Course Ledger → List Line → Course Ledger → Type 0
+    Marks s [] e = (is_over text s.stage ≡ true) × (e ≡ s)
+    Marks s (t ∷ ts) e = (is_over text s.stage ≡ false) × LineRight s (standing s) t × Marks (after_line s (standing s) t) ts e
+
+    abbrev pub Marked : ℕ → List ℕ → Type 0
+    Marked greatest lines = (ts : List Line) × (e : Course Ledger) × Marks (begun (fresh greatest)) ts e × (lines ≡ lines_text ts ++ last_text e)
+
+    abbrev pub ledger_left : {M : Type 0} → Course M → Answer (Turn M) → Ledger → Ledger
+    ledger_left s t l = after t l (ledger_at l s.stage (standing s))
