@@ -1,6 +1,6 @@
 #!/usr/bin/env bash
 # Programs that must be rejected when they are built.
-# Each text in tools/rejected/ changes one line of a program of this repository, and names the error that the compiler must answer.
+# Each text in tools/rejected/ changes one line of a program of this repository, or of a library below it, and names the error that the compiler must answer.
 # The change is made in a copy. It passes where that very error is answered, and no other.
 set -u
 top=$(cd "$(dirname "$0")/.." && pwd) || exit 1
