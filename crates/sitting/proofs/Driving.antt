@@ -1,8 +1,8 @@
 -- Turn after turn: what was done, and what is left to do.
-use Rattle.std.proofs.Common.{◌≡◌, ℕ, List, [], ◌++◌, length, map, take, drop, Option, Result, Ok, Err, refl, ap, sym, ◌∙◌, subst, append_assoc, append-nil, suc}
+use Rattle.std.proofs.Common.{◌≡◌, ℕ, List, [], ◌∷◌, ◌++◌, length, take, drop, Option, Result, Ok, Err, refl, ap, sym, ◌∙◌, subst, append_assoc, append-nil, suc}
 use Rattle.std.proofs.Math.Seq.{take-append_seam}
-use Rattle.flow.specs.Answers.{Answer, answered, refused, answer_map, after, told}
-use Rattle.flow.specs.Meanings.{Meaning, Opens, Flushes, Adds, Heavy}
+use Rattle.flow.specs.Answers.{Answer, answered, refused, answer_map, told}
+use Rattle.flow.specs.Meanings.{Meaning}
 use Rattle.flow.specs.Refusals.{number}
 use Rattle.flow.specs.declared.code.Code.{Code}
 use Rattle.flow.specs.declared.refusal.Refusal.{Refusal}
@@ -11,22 +11,11 @@ use Rattle.meter.specs.declared.record.Record.{Record}
 use Rattle.meter.specs.Holding.{Holds}
 use Rattle.meter.specs.Ledgers.{Ledger}
 use Rattle.meter.specs.States.{State, unplanned}
+use Rattle.sitting.specs.declared.sitting.Sitting.{Sitting}
 use Rattle.sitting.specs.Courses.{Course, begun}
 use Rattle.sitting.specs.Turns.{line_text, Turn, next_turn, course_left, text_left, table_left, scratch_left}
-use Rattle.sitting.proofs.Promising.{next_holds}
-use Rattle.sitting.specs.Markings.{ledger_at, standing}
-use Rattle.sitting.specs.Tapes.{most_turns, lines_text, last_text, ended, left_by, Drives, turns_from, turns, tape_turns}
-
-abbrev lines_of : {M : Type 0} → List (Turn M) → List ℕ
-lines_of {M} ts = lines_text (map (λ (t : Turn M). t.line) ts)
-
--- all turns from a first course on, of which some are left from this one: the lines so far, and the areas
-pub record Driven {M : Type 0} (all rest : List (Turn M)) (first s : Course M) (lines text text' scratch scratch' : List ℕ) (table table' : List Record) : Type 0 where
-  pub lines_is : lines ++ lines_of rest ≡ lines_of all
-  pub course_is : ended s rest ≡ ended first all
-  pub text_is : left_by text_left rest text' ≡ left_by text_left all text
-  pub scratch_is : left_by scratch_left rest scratch' ≡ left_by scratch_left all scratch
-  pub table_is : left_by table_left rest table' ≡ left_by table_left all table
+use Rattle.sitting.specs.Sittings.{course_of, lent}
+use Rattle.sitting.specs.Tapes.{most_turns, lines_text, last_text, lines_of, ended, left_by, Drives, turns_from, turns, tape_turns}
 
 -- what a command printed: a turn was taken, or none
 told_answered : {A : Type 0} (f : A → ℕ) (a : Answer A) (n : ℕ) → answered n ≡ answer_map f a → (x : A) × (a ≡ answered x) × (n ≡ f x)
@@ -37,106 +26,129 @@ told_refused : {A : Type 0} (f : A → ℕ) (a : Answer A) (n : ℕ) → refused
 told_refused f (answered x) n e = cc
 told_refused f (refused k) n e = cc
 
-module _ {M : Type 0} (all : List (Turn M)) (first : Course M) (text scratch : List ℕ) (table : List Record) where
-  pub driven_none : Driven all all first first [] text text scratch scratch table table
-  driven_none = record { lines_is = refl; course_is = refl; text_is = refl; scratch_is = refl; table_is = refl }
+-- how far a sitting has come: its course, its lines so far, and what each area holds
+pub record Stand (M : Type 0) : Type 0 where
+  pub course : Course M
+  pub lines : List ℕ
+  pub text : List ℕ
+  pub scratch : List ℕ
+  pub table : List Record
 
-  -- nothing is left
-  pub driven_out : (s : Course M) (lines text' scratch' : List ℕ) (table' : List Record) → Driven all [] first s lines text text' scratch scratch' table table' → Drives all first s lines text text' scratch scratch' table table'
-  driven_out s lines text' scratch' table' d = record {
-    lines_is = sym (append-nil lines) ∙ d.lines_is;
-    course_is = d.course_is;
-    text_is = d.text_is;
-    scratch_is = d.scratch_is;
-    table_is = d.table_is;
+abbrev pub stand : {K C : Type 0} (m : Meaning C) → Sitting K C → (lines text scratch : List ℕ) → List Record → Stand (State m.Model)
+stand m s lines text scratch table = record { course = course_of m s; lines = lines; text = text; scratch = scratch; table = table }
+
+module _ {M : Type 0} where
+  abbrev by_turn : Turn M → Stand M → Stand M
+  by_turn t x = record {
+    course = t.after;
+    lines = x.lines ++ line_text t.line;
+    text = text_left (answered t) x.text;
+    scratch = scratch_left (answered t) x.scratch;
+    table = table_left (answered t) x.table;
   }
 
-  module _ (s : Course M) (lines text' scratch' : List ℕ) (table' : List Record) where
-    -- a turn is taken, or none, and then nothing is left
-    driven_more : (a : Answer (Turn M)) (t : Turn M) (more : Course M → List (Turn M)) → a ≡ answered t → Driven all (turns_from more a) first s lines text text' scratch scratch' table table' →
-        Driven all (more (course_left a s)) first (course_left a s) (lines ++ line_text t.line) text (text_left a text') scratch (scratch_left a scratch') table (table_left a table')
-    driven_more (answered x) t more e d =
-        let same : x ≡ t = cc in
-        record {
-          lines_is = ap (λ (y : Turn M). (lines ++ line_text y.line) ++ lines_of (more x.after)) (sym same) ∙ append_assoc lines (line_text x.line) (lines_of (more x.after)) ∙ d.lines_is;
-          course_is = d.course_is;
-          text_is = d.text_is;
-          scratch_is = d.scratch_is;
-          table_is = d.table_is;
-        }
-    driven_more (refused n) t more e d = cc
+  abbrev pub by_turns : List (Turn M) → Stand M → Stand M
+  by_turns [] x = x
+  by_turns (t ∷ ts) x = by_turns ts (by_turn t x)
 
-    driven_over : (a : Answer (Turn M)) (n : ℕ) (more : Course M → List (Turn M)) → a ≡ refused n → Driven all (turns_from more a) first s lines text text' scratch scratch' table table' →
-        Driven all [] first (course_left a s) lines text (text_left a text') scratch (scratch_left a scratch') table (table_left a table')
-    driven_over (answered x) n more e d = cc
-    driven_over (refused k) n more e d = d
+  lines_by : (ts : List (Turn M)) (x : Stand M) → (by_turns ts x).lines ≡ x.lines ++ lines_text (lines_of ts)
+  lines_by [] x = sym (append-nil x.lines)
+  lines_by (t ∷ ts) x = lines_by ts (by_turn t x) ∙ append_assoc x.lines (line_text t.line) (lines_text (lines_of ts))
 
--- the areas that a command was lent hold the line of its turn in front
-front_line : {M : Type 0} (t : Turn M) (text' : List ℕ) (n : ℕ) → n ≡ length (line_text t.line) → take n (text_left (answered t) text') ≡ line_text t.line
-front_line t text' n e = ap (λ (k : ℕ). take k (text_left (answered t) text')) e ∙ take-append_seam (line_text t.line) (drop (length (line_text t.line)) text')
+  part_by : {A : Type 0} (part : Stand M → A) (leaves : Answer (Turn M) → A → A) → ((t : Turn M) (x : Stand M) → part (by_turn t x) ≡ leaves (answered t) (part x)) →
+      (ts : List (Turn M)) (x : Stand M) → part (by_turns ts x) ≡ left_by leaves ts (part x)
+  part_by part leaves one [] x = refl
+  part_by part leaves one (t ∷ ts) x = part_by part leaves one ts (by_turn t x) ∙ ap (left_by leaves ts) (one t x)
 
-module _ {C : Type 0} (m : Meaning C) (opens : Opens m) (flushes : Flushes m) (adds : Adds m) (heavy : Heavy m) (spelled : List ℕ → Option Code) (areas : Areas) (key_bytes key_kind counter_kind : ℕ) (tape : List ℕ) (length_of_text : ℕ) where
-  abbrev next : Course (State m.Model) → Answer (Turn (State m.Model))
-  next s = next_turn m spelled key_bytes key_kind counter_kind s tape length_of_text areas
+  pub drives : (ts : List (Turn M)) (x y : Stand M) → x.lines ≡ [] → y ≡ by_turns ts x →
+      Drives ts x.course y.course y.lines x.text y.text x.scratch y.scratch x.table y.table
+  drives ts x y none is =
+      subst (λ (z : Stand M). Drives ts x.course z.course z.lines x.text z.text x.scratch z.scratch x.table z.table) (sym is)
+      (record {
+        lines_is = lines_by ts x ∙ ap (λ (lines : List ℕ). lines ++ lines_text (lines_of ts)) none;
+        course_is = part_by (λ (z : Stand M). z.course) course_left (λ t z. refl) ts x;
+        text_is = part_by (λ (z : Stand M). z.text) text_left (λ t z. refl) ts x;
+        scratch_is = part_by (λ (z : Stand M). z.scratch) scratch_left (λ t z. refl) ts x;
+        table_is = part_by (λ (z : Stand M). z.table) table_left (λ t z. refl) ts x;
+      })
 
+  -- a command left what its turn leaves
+  pub record Left (a : Answer (Turn M)) (x y : Stand M) : Type 0 where
+    pub course_is : y.course ≡ course_left a x.course
+    pub text_is : y.text ≡ text_left a x.text
+    pub scratch_is : y.scratch ≡ scratch_left a x.scratch
+    pub table_is : y.table ≡ table_left a x.table
+
+  none_taken : (a : Answer (Turn M)) (n : ℕ) (x y : Stand M) → a ≡ refused n → Left a x y → y.lines ≡ x.lines → y ≡ x
+  none_taken a n x y e left same =
+      let l = subst (λ (b : Answer (Turn M)). Left b x y) e left in
+      λ i. record { course = l.course_is i; lines = same i; text = l.text_is i; scratch = l.scratch_is i; table = l.table_is i }
+
+  one_taken : (a : Answer (Turn M)) (t : Turn M) (x y : Stand M) → a ≡ answered t → Left a x y → y.lines ≡ x.lines ++ line_text t.line → y ≡ by_turn t x
+  one_taken a t x y e left more =
+      let l = subst (λ (b : Answer (Turn M)). Left b x y) e left in
+      λ i. record { course = l.course_is i; lines = more i; text = l.text_is i; scratch = l.scratch_is i; table = l.table_is i }
+
+  -- the line of a turn stands at the front of the text that it leaves
+  front_line : (a : Answer (Turn M)) (t : Turn M) (x y : Stand M) → a ≡ answered t → Left a x y → take (length (line_text t.line)) y.text ≡ line_text t.line
+  front_line a t x y e left =
+      let l = subst (λ (b : Answer (Turn M)). Left b x y) e left in
+      ap (take (length (line_text t.line))) l.text_is ∙ take-append_seam (line_text t.line) (drop (length (line_text t.line)) x.text)
+
+module _ {C : Type 0} (m : Meaning C) (spelled : List ℕ → Option Code) (key_bytes key_kind counter_kind : ℕ) (tape : List ℕ) (first : Stand (State m.Model)) where
   abbrev left : ℕ → Course (State m.Model) → List (Turn (State m.Model))
-  left n s = turns spelled areas key_bytes key_kind counter_kind tape length_of_text m n s
+  left n s = turns spelled (lent first.scratch first.table) key_bytes key_kind counter_kind tape (length first.text) m n s
 
-  -- a sitting on its way, that may take so many turns more
-  pub record OnItsWay (n : ℕ) (first s : Course (State m.Model)) (lines text text' scratch scratch' : List ℕ) (table table' : List Record) : Type 0 where
+  -- a sitting on its way, that may take so many turns more: they lead where all turns lead from the first
+  pub record OnItsWay (n : ℕ) (now : Stand (State m.Model)) : Type 0 where
     pub ledger : Ledger
-    pub holds : Holds m s.meter ledger
-    pub driven : Driven (left most_turns first) (left n s) first s lines text text' scratch scratch' table table'
+    pub holds : Holds m now.course.meter ledger
+    pub rest_is : by_turns (left n now.course) now ≡ by_turns (left most_turns first.course) first
 
-  module _ (first : Course (State m.Model)) (text scratch : List ℕ) (table : List Record) where
-    pub way_begins : (l : Ledger) → Holds m first.meter l → OnItsWay most_turns first first [] text text scratch scratch table table
-    way_begins l h = record { ledger = l; holds = h; driven = driven_none (left most_turns first) first text scratch table }
+  pub way_ends : (n : ℕ) (now : Stand (State m.Model)) → n ≡ 0 → OnItsWay n now → now ≡ by_turns (left most_turns first.course) first
+  unfolding turns
+  way_ends n now none w = subst (λ (k : ℕ). by_turns (left k now.course) now ≡ by_turns (left most_turns first.course) first) none w.rest_is
 
-    pub way_ends : (n : ℕ) → n ≡ 0 → (s : Course (State m.Model)) (lines text' scratch' : List ℕ) (table' : List Record) → OnItsWay n first s lines text text' scratch scratch' table table' → Drives (left most_turns first) first s lines text text' scratch scratch' table table'
+  -- what a command said and left, by the next turn
+  module _ (k n : ℕ) (k_is : k ≡ suc n) (now later : Stand (State m.Model)) (w : OnItsWay k now)
+      (text_is : length now.text ≡ length first.text) (scratch_is : length now.scratch ≡ length first.scratch) (table_is : length now.table ≡ length first.table) where
+    abbrev next : Answer (Turn (State m.Model))
+    next = next_turn m spelled key_bytes key_kind counter_kind now.course tape (length now.text) (lent now.scratch now.table)
+
+    rest_from : (a : Answer (Turn (State m.Model))) → next ≡ a → by_turns (turns_from (left n) a) now ≡ by_turns (left most_turns first.course) first
     unfolding turns
-    way_ends n none s lines text' scratch' table' w =
-        driven_out (left most_turns first) first text scratch table s lines text' scratch' table'
-        (subst (λ (k : ℕ). Driven (left most_turns first) (left k s) first s lines text text' scratch scratch' table table') none w.driven)
+    rest_from a is =
+        let at_first : next_turn m spelled key_bytes key_kind counter_kind now.course tape (length first.text) (lent first.scratch first.table) ≡ next =
+        λ i. next_turn m spelled key_bytes key_kind counter_kind now.course tape (sym text_is i) (record { scratch = sym scratch_is i; table = sym table_is i }) in
+        subst (λ (b : Answer (Turn (State m.Model))). by_turns (turns_from (left n) b) now ≡ by_turns (left most_turns first.course) first) (at_first ∙ is)
+        (subst (λ (j : ℕ). by_turns (left j now.course) now ≡ by_turns (left most_turns first.course) first) k_is w.rest_is)
 
-    -- what a command said and left, by the next turn
-    module _ (s last : Course (State m.Model)) (k n : ℕ) (k_is : k ≡ suc n) (lines text' text2 scratch' scratch2 : List ℕ) (table' table2 : List Record) (w : OnItsWay k first s lines text text' scratch scratch' table table')
-        (a : Answer (Turn (State m.Model))) (same : a ≡ next s) (r : Result ℕ Refusal) (told_is : told r ≡ answer_map (λ t. length (line_text t.line)) a)
-        (last_is : last ≡ course_left a s) (text_is : text2 ≡ text_left a text') (scratch_is : scratch2 ≡ scratch_left a scratch') (table_is : table2 ≡ table_left a table') where
-      taken_from : Driven (left most_turns first) (turns_from (left n) a) first s lines text text' scratch scratch' table table'
-      unfolding turns
-      taken_from = subst (λ (x : Answer (Turn (State m.Model))). Driven (left most_turns first) (turns_from (left n) x) first s lines text text' scratch scratch' table table') (sym same)
-          (subst (λ (j : ℕ). Driven (left most_turns first) (left j s) first s lines text text' scratch scratch' table table') k_is w.driven)
+    module _ (r : Result ℕ Refusal) (told_is : told r ≡ answer_map (λ t. length (line_text t.line)) next) (leaves : Left next now later) where
+      pub way_over : (e : Refusal) → r ≡ Err e → later.lines ≡ now.lines → later ≡ by_turns (left most_turns first.course) first
+      way_over e is same =
+          let none = told_refused (λ t. length (line_text t.line)) next (number e) (sym (ap told is) ∙ told_is) in
+          none_taken next (number e) now later none leaves same ∙ rest_from (refused (number e)) none
 
-      left_is : ◌≡◌ {A = Course (State m.Model) × List ℕ × List ℕ × List Record} (course_left a s, text_left a text', scratch_left a scratch', table_left a table') (last, text2, scratch2, table2)
-      left_is = λ i. (sym last_is i, sym text_is i, sym scratch_is i, sym table_is i)
-
-      pub way_over : (e : Refusal) → r ≡ Err e → Drives (left most_turns first) first last lines text text2 scratch scratch2 table table2
-      way_over e is =
-          driven_out (left most_turns first) first text scratch table last lines text2 scratch2 table2
-          (subst (λ (x : Course (State m.Model) × List ℕ × List ℕ × List Record). Driven (left most_turns first) [] first x.0 lines text x.1 scratch x.2 table x.3) left_is
-          (driven_over (left most_turns first) first text scratch table s lines text' scratch' table' a (number e) (left n) (told_refused (λ t. length (line_text t.line)) a (number e) (sym (ap told is) ∙ told_is)) taken_from))
-
-      pub way_goes_on : (bytes : ℕ) (lines2 : List ℕ) → r ≡ Ok bytes → lines2 ≡ lines ++ take bytes text2 → OnItsWay n first last lines2 text text2 scratch scratch2 table table2
-      way_goes_on bytes lines2 is lines_is =
-          let t = told_answered (λ (x : Turn (State m.Model)). length (line_text x.line)) a bytes (sym (ap told is) ∙ told_is) in
-          let front : lines2 ≡ lines ++ line_text t.0.line = lines_is ∙ ap (λ (x : List ℕ). lines ++ take bytes x) text_is ∙ ap (λ (x : Answer (Turn (State m.Model))). lines ++ take bytes (text_left x text')) t.1 ∙ ap (λ (x : List ℕ). lines ++ x) (front_line t.0 text' bytes t.2) in
+      pub way_goes_on : (bytes : ℕ) → r ≡ Ok bytes → later.lines ≡ now.lines ++ take bytes later.text → (l : Ledger) → Holds m later.course.meter l → OnItsWay n later
+      way_goes_on bytes is lines_is l h =
+          let (t, taken, bytes_is) = told_answered (λ (x : Turn (State m.Model)). length (line_text x.line)) next bytes (sym (ap told is) ∙ told_is) in
+          let front = ap (λ (b : ℕ). take b later.text) bytes_is ∙ front_line next t now later taken leaves in
+          let one = one_taken next t now later taken leaves (lines_is ∙ ap (λ (x : List ℕ). now.lines ++ x) front) in
           record {
-            ledger = after (next s) w.ledger (ledger_at spelled areas w.ledger s.stage (standing spelled areas key_bytes key_kind counter_kind tape length_of_text s));
-            holds = next_holds m opens flushes adds heavy spelled areas key_bytes key_kind counter_kind tape length_of_text s last w.ledger (last_is ∙ ap (λ (x : Answer (Turn (State m.Model))). course_left x s) same) w.holds;
-            driven = subst (λ (x : List ℕ). Driven (left most_turns first) (left n last) first last x text text2 scratch scratch2 table table2) (sym front)
-                (subst (λ (x : Course (State m.Model) × List ℕ × List ℕ × List Record). Driven (left most_turns first) (left n x.0) first x.0 (lines ++ line_text t.0.line) text x.1 scratch x.2 table x.3) left_is
-                (driven_more (left most_turns first) first text scratch table s lines text' scratch' table' a t.0 (left n) t.1 taken_from));
+            ledger = l;
+            holds = h;
+            rest_is = ap (λ (x : Stand (State m.Model)). by_turns (left n x.course) x) one ∙ rest_from (answered t) taken;
           }
 
 -- turns that begin on the course of a new sitting are those of the whole tape
 pub whole_tape : {C : Type 0} (m : Meaning C) (spelled : List ℕ → Option Code) (areas : Areas) (key_bytes key_kind counter_kind : ℕ) (tape : List ℕ) (length_of_text : ℕ) (x : m.Model)
-    (first last : Course (State m.Model)) (lines text text' scratch scratch' : List ℕ) (table table' : List Record) → first ≡ begun (unplanned x) →
+    {first last : Course (State m.Model)} {lines text text' scratch scratch' : List ℕ} {table table' : List Record} → first ≡ begun (unplanned x) →
     Drives (turns spelled areas key_bytes key_kind counter_kind tape length_of_text m most_turns first) first last lines text text' scratch scratch' table table' →
     Drives (tape_turns spelled areas key_bytes key_kind counter_kind tape length_of_text m x) (begun (unplanned x)) last lines text text' scratch scratch' table table'
-whole_tape m spelled areas key_bytes key_kind counter_kind tape length_of_text x first last lines text text' scratch scratch' table table' is d =
+whole_tape m spelled areas key_bytes key_kind counter_kind tape length_of_text x {first} {last} {lines} {text} {text'} {scratch} {scratch'} {table} {table'} is d =
     subst (λ (s : Course (State m.Model)). Drives (turns spelled areas key_bytes key_kind counter_kind tape length_of_text m most_turns s) s last lines text text' scratch scratch' table table') is d
 
 -- the last line behind the others
-pub lines_ended : {M : Type 0} (ts : List (Turn M)) (first last : Course M) (lines text text' scratch scratch' : List ℕ) (table table' : List Record) → Drives ts first last lines text text' scratch scratch' table table' →
-    (whole end : List ℕ) → whole ≡ lines ++ end → end ≡ last_text last → whole ≡ lines_of ts ++ last_text (ended first ts)
-lines_ended ts first last lines text text' scratch scratch' table table' d whole end is end_is = is ∙ (λ i. d.lines_is i ++ (end_is ∙ ap last_text d.course_is) i)
+pub lines_ended : {M : Type 0} {ts : List (Turn M)} {first last : Course M} {lines text text' scratch scratch' : List ℕ} {table table' : List Record} → Drives ts first last lines text text' scratch scratch' table table' →
+    (whole end : List ℕ) → whole ≡ lines ++ end → end ≡ last_text last → whole ≡ lines_text (lines_of ts) ++ last_text (ended first ts)
+lines_ended d whole end is end_is = is ∙ (λ i. d.lines_is i ++ (end_is ∙ ap last_text d.course_is) i)

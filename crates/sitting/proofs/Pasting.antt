@@ -2,7 +2,7 @@
 use Rattle.std.proofs.Common.{◌≡◌, ℕ, ◌+◌, ◌<◌, ◌≤◌, List, ◌++◌, length, get_or, take, drop, sym, ap, ◌∙◌, zero-add, arith, append_assoc, length-append, length-take}
 use Rattle.std.proofs.lemmas.List.{take_at, drop_at, drop-drop, take_more, flat_map_more}
 use Rattle.std.specs.List.{flat_map}
-use Rattle.sitting.specs.Lines.{pasted}
+use Rattle.sitting.specs.Lines.{pasted, over}
 
 -- some bytes stand in a text that was xs, from a place on up to an end
 pub record Written (xs : List ℕ) (at : ℕ) (bytes text : List ℕ) (end : ℕ) : Type 0 where
@@ -34,11 +34,11 @@ joined_more f front xs i blank low =
     flat_map_more f front (take i xs) (get_or xs i blank) ∙ ap (λ ys. front ++ flat_map f ys) (sym (take_more xs i blank low))
 
 -- what is pasted at the start stands at the front
-pub pasted_front : (xs bytes : List ℕ) → pasted xs 0 bytes ≡ bytes ++ drop (length bytes) xs
+pub pasted_front : (xs bytes : List ℕ) → pasted xs 0 bytes ≡ over bytes xs
 pasted_front xs bytes = rw zero-add
 
 -- the lines of flows stand behind the line before them
-pub written_behind : {text next : List ℕ} {end far : ℕ} (xs ys zs : List ℕ) → text ≡ pasted xs 0 ys → end ≡ 0 + length ys → next ≡ pasted text end zs → far ≡ end + length zs → length ys + length zs ≤ length xs → (next ≡ (ys ++ zs) ++ drop (length (ys ++ zs)) xs) × (far ≡ length (ys ++ zs))
+pub written_behind : {text next : List ℕ} {end far : ℕ} (xs ys zs : List ℕ) → text ≡ pasted xs 0 ys → end ≡ 0 + length ys → next ≡ pasted text end zs → far ≡ end + length zs → length ys + length zs ≤ length xs → (next ≡ over (ys ++ zs) xs) × (far ≡ length (ys ++ zs))
 written_behind xs ys zs e f g h room =
     let both = written_more {xs = xs} {at = 0} zs (record { bytes_stand = e; end_is = f }) g h (omega arith) in
     (both.bytes_stand ∙ pasted_front xs (ys ++ zs), omega (arith, both.end_is))

@@ -1,5 +1,5 @@
 -- The guarantee over a whole tape, from what each turn keeps.
-use Rattle.std.proofs.Common.{◌≡◌, ℕ, ◌+◌, ◌<◌, ◌≤◌, ◌⊎◌, Bool, true, false, cond, ltb, List, ◌∷◌, map, Option, refl, ap, sym, subst, inl, inr, arith, zero, suc}
+use Rattle.std.proofs.Common.{◌≡◌, ℕ, ◌+◌, ◌<◌, ◌≤◌, ◌⊎◌, Bool, true, false, cond, ltb, List, ◌∷◌, Option, refl, ap, sym, subst, inl, inr, arith, zero, suc}
 use Rattle.flow.specs.Answers.{Answer, answered, refused, answer_map, after}
 use Rattle.flow.specs.Limits.{least_text, most_tape}
 use Rattle.flow.specs.Meanings.{Meaning, Opens, Flushes, Adds, Heavy}
@@ -21,7 +21,7 @@ use Rattle.sitting.specs.Courses.{Course, begun, Ask, calls, sets, closes, asked
 use Rattle.sitting.specs.Turns.{Turn, unless_done, answer_of, meter_after, turned, next_turn, course_left}
 use Rattle.frame.specs.declared.plan.Plan.{Plan}
 use Rattle.sitting.specs.Markings.{ledger_after, ledger_at, AnswerRight, is_over, LineRight, after_line, standing, Marks, Marked}
-use Rattle.sitting.specs.Tapes.{most_turns, turns_from, turns, ended, tape_turns, tape_text}
+use Rattle.sitting.specs.Tapes.{most_turns, lines_of, turns_from, turns, ended, tape_turns, tape_text}
 
 -- a course with a ledger in place of its meter
 abbrev with_ledger : {M : Type 0} → Course M → Ledger → Course Ledger
@@ -101,13 +101,13 @@ module _ {C : Type 0} (m : Meaning C) (opens : Opens m) (flushes : Flushes m) (a
 
       -- turns from a course on print what is right under a ledger
       Prints : Course (State m.Model) → Ledger → List (Turn (State m.Model)) → Type 0
-      Prints s l ts = (e : Ledger) × Marks spelled areas key_bytes key_kind counter_kind tape text (with_ledger s l) (map (λ (t : Turn (State m.Model)). t.line) ts) (with_ledger (ended s ts) e)
+      Prints s l ts = (e : Ledger) × Marks spelled areas key_bytes key_kind counter_kind tape text (with_ledger s l) (lines_of ts) (with_ledger (ended s ts) e)
 
       prints_more : (s : Course (State m.Model)) (l : Ledger) (ts : List (Turn (State m.Model))) → Holds m s.meter l → is_over text s.stage ≡ false →
           Prints (turned m spelled s areas (here s)).after (ledger_at spelled areas l s.stage (here s)) ts → Prints s l (turned m spelled s areas (here s) ∷ ts)
       unfolding Prints
       prints_more s l ts h on (e, rest) =
-          (e, (on, line_right s l (here s) h, subst (λ (c : Course Ledger). Marks spelled areas key_bytes key_kind counter_kind tape text c (map (λ (x : Turn (State m.Model)). x.line) ts) (with_ledger (ended (turned m spelled s areas (here s)).after ts) e)) (line_after s l (here s)) rest))
+          (e, (on, line_right s l (here s) h, subst (λ (c : Course Ledger). Marks spelled areas key_bytes key_kind counter_kind tape text c (lines_of ts) (with_ledger (ended (turned m spelled s areas (here s)).after ts) e)) (line_after s l (here s)) rest))
 
       marks : (n : ℕ) (s : Course (State m.Model)) (l : Ledger) → Holds m s.meter l → Enough n s → Prints s l (the_turns n s)
       unfolding Prints Enough turns
@@ -125,4 +125,4 @@ module _ {C : Type 0} (m : Meaning C) (opens : Opens m) (flushes : Flushes m) (a
       unfolding Prints Enough
       marked x =
           let r = marks most_turns (begun (unplanned x)) (fresh (m.greatest x)) (new_holds m x) (inr (omega arith, omega arith)) in
-          (map (λ (t : Turn (State m.Model)). t.line) (tape_turns spelled areas key_bytes key_kind counter_kind tape text m x), with_ledger (ended (begun (unplanned x)) (tape_turns spelled areas key_bytes key_kind counter_kind tape text m x)) r.0, r.1, refl)
+          (lines_of (tape_turns spelled areas key_bytes key_kind counter_kind tape text m x), with_ledger (ended (begun (unplanned x)) (tape_turns spelled areas key_bytes key_kind counter_kind tape text m x)) r.0, r.1, refl)

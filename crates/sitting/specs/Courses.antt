@@ -5,6 +5,7 @@
 --   first_asked     what a command asks before a plan: only a plan is taken
 --   later_asked     what a command asks under a plan and a standing level: all but a plan is taken, and a key must be one
 --   asked           what a command asks in a stage, for areas of some lengths: 17 where it is not taken, else 14 where its key is none
+--   levelled        the settings with a standing level
 --   first_level     the standing level under a new plan
 --   packets_after   the packets accepted, with one more of some weight or without
 --   volume_after    their volume
@@ -26,7 +27,6 @@ use Rattle.tape.specs.declared.command.Command.TheVariants as command
 use Rattle.sitting.specs.declared.ending.Ending.TheVariants as ending
 use Rattle.sitting.specs.declared.settings.Settings.{Settings}
 use Rattle.sitting.specs.declared.stage.Stage.{Stage}
-use Rattle.sitting.specs.Stages.{levelled}
 use Rattle.sitting.specs.declared.stage.Stage.TheVariants as stage
 
 pub record Course (M : Type 0) : Type 0 where
@@ -48,13 +48,7 @@ pub data Ask : Type 0 where
 module _ (spelled : List ℕ → Option Code) (areas : Areas) where
   abbrev pub first_asked : Command (List ℕ) → Answer Ask
   first_asked (command.Plan q) = answered (calls (call.Plan q))
-  first_asked (command.Packet key w) = refused 17
-  first_asked (command.Estimate key) = refused 17
-  first_asked command.List = refused 17
-  first_asked command.Restart = refused 17
-  first_asked (command.Level h) = refused 17
-  first_asked (command.Trial h) = refused 17
-  first_asked command.Close = refused 17
+  first_asked c = refused 17
 
   abbrev pub later_asked : Settings → Command (List ℕ) → Answer Ask
   later_asked s (command.Plan q) = refused 17
@@ -71,6 +65,9 @@ module _ (spelled : List ℕ → Option Code) (areas : Areas) where
   asked (stage.Planned s) c = later_asked s c
   asked (stage.Done e) c = refused 17
 
+abbrev pub levelled : ℕ → Settings
+levelled h = record { level = h }
+
 abbrev pub first_level : Plan → ℕ
 first_level q = 4 * unit_of q
 
@@ -86,13 +83,9 @@ module _ {K R : Type 0} where
   abbrev pub stage_after : Stage → Command K → Answer R → Stage
   stage_after s c (refused n) = s
   stage_after s (command.Plan q) (answered r) = stage.Planned (levelled (first_level q))
-  stage_after s (command.Packet key w) (answered r) = s
-  stage_after s (command.Estimate key) (answered r) = s
-  stage_after s command.List (answered r) = s
-  stage_after s command.Restart (answered r) = s
   stage_after s (command.Level h) (answered r) = stage.Planned (levelled h)
-  stage_after s (command.Trial h) (answered r) = s
   stage_after s command.Close (answered r) = stage.Done ending.Closed
+  stage_after s c (answered r) = s
 
   abbrev pub accepted : Command K → Answer R → Option ℕ
   accepted c (refused n) = None

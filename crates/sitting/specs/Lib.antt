@@ -1,5 +1,4 @@
 pub mod Lines
-pub mod Stages
 pub mod Courses
 pub mod Turns
 pub mod Tapes

@@ -13,6 +13,7 @@
 --   ending_word           the word of a last line
 --   last_line             the last line of a sitting: the packets accepted, and their volume
 --   pasted                a text with some bytes at a place
+--   over                  a text with some bytes at its front
 use Rattle.std.specs.Prelude.{ℕ, ◌+◌, ◌≤◌, List, [], ◌∷◌, ◌++◌, length, take, drop, flat_map, codes}
 use Rattle.std.specs.Fmt.{decimal}
 use Rattle.flow.specs.Limits.{most_marks}
@@ -80,3 +81,6 @@ last_line e packets volume = line (ending_word e) (packets ∷ volume ∷ [])
 
 abbrev pub pasted : List ℕ → ℕ → List ℕ → List ℕ
 pasted text at bytes = take at text ++ (bytes ++ drop (at + length bytes) text)
+
+abbrev pub over : List ℕ → List ℕ → List ℕ
+over bytes text = bytes ++ drop (length bytes) text

@@ -44,9 +44,8 @@ AnswerRight l c (answered q) a = AskRight l c q a
 AnswerRight l c (refused n) a = a ≡ refused n
 
 abbrev pub is_over : ℕ → Stage → Bool
-is_over text stage.Unplanned = nat_lt text least_text
-is_over text (stage.Planned s) = nat_lt text least_text
 is_over text (stage.Done e) = true
+is_over text s = nat_lt text least_text
 
 -- by the codes that bytes spell, with a scratch and a table of some lengths
 module _ (spelled : List ℕ → Option Code) (areas : Areas) where

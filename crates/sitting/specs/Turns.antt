@@ -2,7 +2,6 @@
 --   Line            what is said of a command: the offset of its first byte, and its answer
 --   answer_text     the lines that are printed for an answer at an offset
 --   line_text       the lines that are printed for what is said of a command
---   over            bytes in front of a text, over what stood there
 --   table_after     the table after an answer: the records of a list in front
 --   scratch_after   the scratch after an answer: all zero after a list
 --   listed          the reply to a command that lists
@@ -20,7 +19,7 @@
 --   text_left       the text after a turn
 --   table_left      the table after a turn
 --   scratch_left    the scratch after a turn
-use Rattle.std.specs.Prelude.{ℕ, cond, List, ◌++◌, length, drop, Option, nat_lt}
+use Rattle.std.specs.Prelude.{ℕ, cond, List, Option, nat_lt}
 use Rattle.flow.specs.Answers.{Answer, answered, refused, answer_map}
 use Rattle.flow.specs.Limits.{least_text}
 use Rattle.flow.specs.Meanings.{Meaning}
@@ -38,7 +37,7 @@ use Rattle.sitting.specs.declared.reply.Reply.{Reply}
 use Rattle.sitting.specs.declared.reply.Reply.TheVariants as reply
 use Rattle.sitting.specs.declared.stage.Stage.{Stage}
 use Rattle.sitting.specs.declared.stage.Stage.TheVariants as stage
-use Rattle.sitting.specs.Lines.{reply_lines, refusal_line}
+use Rattle.sitting.specs.Lines.{reply_lines, refusal_line, over}
 use Rattle.sitting.specs.Courses.{Course, Ask, calls, sets, closes, asked, advanced, broken}
 
 pub record Line : Type 0 where
@@ -51,9 +50,6 @@ answer_text offset (refused n) = refusal_line n offset
 
 abbrev pub line_text : Line → List ℕ
 line_text t = answer_text t.offset t.answer
-
-abbrev pub over : List ℕ → List ℕ → List ℕ
-over bytes text = bytes ++ drop (length bytes) text
 
 abbrev pub table_after : Answer (Reply (List Record)) → List Record → List Record
 table_after (answered (reply.Listed rs)) table = table_leaves (answered rs) table
@@ -82,9 +78,8 @@ pub record Turn (M : Type 0) : Type 0 where
   pub after : Course M
 
 abbrev pub unless_done : {A : Type 0} → Stage → A → Answer A
-unless_done stage.Unplanned a = answered a
-unless_done (stage.Planned s) a = answered a
 unless_done (stage.Done e) a = refused 17
+unless_done s a = answered a
 
 -- over a counter of any meaning
 module _ {C : Type 0} (m : Meaning C) where

@@ -1,8 +1,8 @@
 // The lines that are printed for a tape, written as bytes.
-ghost use Rattle.std.specs.Prelude.{◌≡◌, ℕ, ◌+◌, ◌*◌, ◌≤◌, ◌++◌, length, take, drop};
+ghost use Rattle.std.specs.Prelude.{◌≡◌, ◌+◌, ◌*◌, ◌≤◌, ◌++◌, length, take};
 ghost use Rattle.flow.specs.Limits.{least_text, most_tape};
 ghost use Rattle.flow.specs.Refusals.{number};
-ghost use Rattle.sitting.specs.Lines.{longest_flow_line, longest_last_line, most_weight_written, line, reply_map, ListStands, flow_line, flow_lines, reply_lines, refusal_line, last_line, pasted};
+ghost use Rattle.sitting.specs.Lines.{longest_flow_line, longest_last_line, most_weight_written, line, reply_map, ListStands, flow_line, flow_lines, reply_lines, refusal_line, last_line, pasted, over};
 
 use crate::ending::Ending;
 use crate::reply::Reply;
@@ -20,7 +20,7 @@ pub const LONGEST_LAST_LINE: usize = 32;
 pub(crate) fn print_reply(reply: Reply<usize>, table: &[Record], text: &mut [u8]) -> usize
     requires list { ListStands reply (length table.now) }
     requires room { least_text ≤ length text.old }
-    ensures text { let lines = reply_lines (reply_map (λ n. take n table.now) reply) in text.new ≡ lines ++ drop (length lines) text.old }
+    ensures text { text.new ≡ over (reply_lines (reply_map (λ n. take n table.now) reply)) text.old }
     ensures bytes { result ≡ length (reply_lines (reply_map (λ n. take n table.now) reply)) }
     ensures within { result ≤ length text.old }
 {
@@ -42,7 +42,7 @@ pub(crate) fn print_reply(reply: Reply<usize>, table: &[Record], text: &mut [u8]
 #[tactic(auto, using(crate::proofs::Lengths::line_lengths))]
 pub(crate) fn print_refusal(refusal: Refusal, offset: usize, text: &mut [u8]) -> usize
     requires { least_text ≤ length text.old }
-    ensures text { let line = refusal_line (number refusal) offset in text.new ≡ line ++ drop (length line) text.old }
+    ensures text { text.new ≡ over (refusal_line (number refusal) offset) text.old }
     ensures bytes { result ≡ length (refusal_line (number refusal) offset) }
     ensures within { result ≤ length text.old }
 {
@@ -74,7 +74,7 @@ pub(crate) fn last_line(
 // Writes a line, and then the lines of flows, to the front of the text, and answers how many bytes.
 fn print_list(text: &mut [u8], word: &[u8], numbers: &[u64], flows: &[Record]) -> usize
     requires { length (line word.now numbers.now) + longest_flow_line * length flows.now ≤ length text.old }
-    ensures text { let lines = line word.now numbers.now ++ flow_lines flows.now in text.new ≡ lines ++ drop (length lines) text.old }
+    ensures text { text.new ≡ over (line word.now numbers.now ++ flow_lines flows.now) text.old }
     ensures bytes { result ≡ length (line word.now numbers.now ++ flow_lines flows.now) }
 {
     let end = paste_line(text, 0, word, numbers);

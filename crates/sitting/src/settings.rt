@@ -1,6 +1,6 @@
 // The settings of a sitting.
 ghost use Rattle.std.specs.Prelude.{◌≡◌, ◌*◌, ◌^◌, ◌≤◌};
-ghost use Rattle.sitting.specs.Stages.{levelled};
+ghost use Rattle.sitting.specs.Courses.{levelled};
 
 // What stands until another command changes it: the level of lists.
 #[derive(Debug, Clone, Copy, PartialEq, Eq)]

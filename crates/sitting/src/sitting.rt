@@ -5,11 +5,10 @@ ghost use Rattle.meter.specs.Ledgers.{fresh};
 ghost use Rattle.meter.specs.States.{unplanned};
 ghost use Rattle.sitting.specs.Courses.{begun};
 ghost use Rattle.sitting.specs.Lines.{longest_last_line};
-ghost use Rattle.sitting.specs.Tapes.{ending_of, last_text};
+ghost use Rattle.sitting.specs.Tapes.{last_text};
 ghost use Rattle.sitting.specs.Sittings.{course_of};
 
-use crate::ending::Ending;
-use crate::lines::{LONGEST_LAST_LINE, last_line};
+use crate::lines::LONGEST_LAST_LINE;
 use crate::progress::Progress;
 use crate::stage::Stage;
 use arrayvec::ArrayVec;

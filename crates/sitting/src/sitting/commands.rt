@@ -7,7 +7,8 @@ ghost use Rattle.meter.specs.Ledgers.{Ledger};
 ghost use Rattle.sitting.specs.Courses.{accepted};
 ghost use Rattle.sitting.specs.Markings.{ledger_left};
 ghost use Rattle.sitting.specs.Sittings.{course_of, lent, turn_at, turn_of};
-ghost use Rattle.sitting.specs.Turns.{line_text, over, table_after, scratch_after, course_left, text_left, table_left, scratch_left};
+ghost use Rattle.sitting.specs.Lines.{over};
+ghost use Rattle.sitting.specs.Turns.{line_text, table_after, scratch_after, course_left, text_left, table_left, scratch_left};
 ghost use Rattle.tape.specs.Readings.{placed_found};
 
 use crate::ending::Ending;

@@ -1,8 +1,8 @@
 -- A list has at most 510 flows.
-use Rattle.std.proofs.Common.{◌≡◌, [], ◌∷◌, ◌++◌, length, take, drop, sym, subst, arith, length-take, length-take-le}
+use Rattle.std.proofs.Common.{◌≡◌, [], ◌∷◌, ◌++◌, length, take, sym, subst, arith, length-take, length-take-le}
 use Rattle.std.specs.Prelude.{codes}
 use Rattle.sitting.specs.declared.reply.Reply.TheVariants.{Listed, Tried}
-use Rattle.sitting.specs.Lines.{line, flow_lines, ListStands}
+use Rattle.sitting.specs.Lines.{line, flow_lines, ListStands, over}
 use Rattle.sitting.proofs.Lengths.{line_lengths}
 use Rattle.sitting.proofs.lines.print_reply.Goals as goal
 
@@ -24,5 +24,5 @@ returns-in-Tried-clause-text c =
     let stands : ListStands (Tried level n) (length table) = rw c.in-Tried.is at c.requires.list in
     let all : length (take n table) ≡ n = length-take-le n table stands.1 in
     rw c.in-Tried.is
-    (subst (λ m. let lines = line (codes "trial") (level ∷ m ∷ []) ++ flow_lines (take n table) in c.print_list-in-Tried.new.text ≡ lines ++ drop (length lines) c.args.text.now)
+    (subst (λ m. c.print_list-in-Tried.new.text ≡ over (line (codes "trial") (level ∷ m ∷ []) ++ flow_lines (take n table)) c.args.text.now)
     (sym all) c.print_list-in-Tried.ensures.text)

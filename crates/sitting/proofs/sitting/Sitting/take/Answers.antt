@@ -4,8 +4,8 @@ use Rattle.flow.specs.Answers.{Answer, told}
 use Rattle.flow.specs.Refusals.{number}
 use Rattle.meter.specs.declared.record.Record.{Record}
 use Rattle.sitting.specs.declared.reply.Reply.{Reply}
-use Rattle.sitting.specs.Lines.{reply_map, reply_lines}
-use Rattle.sitting.specs.Turns.{answer_text, over}
+use Rattle.sitting.specs.Lines.{reply_map, reply_lines, over}
+use Rattle.sitting.specs.Turns.{answer_text}
 use Rattle.sitting.specs.Courses.{accepted}
 use Rattle.sitting.proofs.Answering.{counted_refused, reply_read, accepted_read}
 use Rattle.sitting.proofs.sitting.Sitting.take.Goals as goal
