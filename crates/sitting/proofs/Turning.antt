@@ -1,18 +1,21 @@
--- When a turn is taken.
-use Rattle.std.proofs.Common.{◌≡◌, ℕ, false, List, Option, refl, ap, sym, ◌∙◌, ltb}
+-- When a turn is taken, and what it tells and leaves then.
+use Rattle.std.proofs.Common.{◌≡◌, ℕ, ◌≤◌, false, List, length, Option, refl, ap, sym, ◌∙◌, subst, ltb, arith}
 use Rattle.std.proofs.lemmas.Bool.{cond-false}
-use Rattle.flow.specs.Answers.{answered}
+use Rattle.std.proofs.lemmas.Bool.Decides.{nat_tests}
+use Rattle.flow.specs.Answers.{Answer, answered, answer_map}
 use Rattle.flow.specs.Limits.{least_text}
 use Rattle.flow.specs.Meanings.{Meaning}
 use Rattle.flow.specs.declared.code.Code.{Code}
 use Rattle.meter.specs.declared.day.Areas.{Areas}
+use Rattle.meter.specs.declared.record.Record.{Record}
 use Rattle.meter.specs.States.{State}
 use Rattle.tape.specs.Readings.{Found, next_in}
 use Rattle.sitting.specs.declared.ending.Ending.{Ending}
 use Rattle.sitting.specs.declared.stage.Stage.{Stage}
 use Rattle.sitting.specs.declared.stage.Stage.TheVariants as stage
 use Rattle.sitting.specs.Courses.{Course}
-use Rattle.sitting.specs.Turns.{unless_done, turned, next_turn}
+use Rattle.sitting.specs.Lines.{over}
+use Rattle.sitting.specs.Turns.{line_text, table_after, scratch_after, Turn, unless_done, turned, next_turn, course_left, text_left, table_left, scratch_left}
 
 not_done : {A : Type 0} (s : Stage) (a : A) → ((e : Ending) → s ≡ stage.Done e → ⊥) → unless_done s a ≡ answered a
 not_done stage.Unplanned a going = refl
@@ -20,8 +23,23 @@ not_done (stage.Planned s) a going = refl
 not_done (stage.Done e) a going = absurd (going e refl)
 
 -- where the text area is long enough and the sitting is not done, what stands on the tape decides
-pub turn_taken : {C : Type 0} (m : Meaning C) (spelled : List ℕ → Option Code) (key_bytes key_kind counter_kind : ℕ) (s : Course (State m.Model)) (tape : List ℕ) (text : ℕ) (areas : Areas) (f : Found) →
-    f ≡ next_in key_bytes key_kind counter_kind s.place tape → ltb text least_text ≡ false → ((e : Ending) → s.stage ≡ stage.Done e → ⊥) →
+pub turn_taken : {C : Type 0} (m : Meaning C) (spelled : List ℕ → Option Code) (key_bytes key_kind counter_kind : ℕ) (s : Course (State m.Model)) (tape : List ℕ) (text : ℕ) (areas : Areas) (place : ℕ) (f : Found) →
+    place ≡ s.place → f ≡ next_in key_bytes key_kind counter_kind place tape → least_text ≤ text → ((e : Ending) → s.stage ≡ stage.Done e → ⊥) →
     next_turn m spelled key_bytes key_kind counter_kind s tape text areas ≡ answered (turned m spelled s areas f)
-turn_taken m spelled key_bytes key_kind counter_kind s tape text areas f is room going =
-    cond-false (ltb text least_text) _ _ room ∙ not_done s.stage _ going ∙ ap (λ (x : Found). answered (turned m spelled s areas x)) (sym is)
+turn_taken m spelled key_bytes key_kind counter_kind s tape text areas place f at is room going =
+    let enough : ltb text least_text ≡ false = grind (arith, nat_tests) in
+    let found : next_in key_bytes key_kind counter_kind s.place tape ≡ f = ap (λ (p : ℕ). next_in key_bytes key_kind counter_kind p tape) (sym at) ∙ sym is in
+    cond-false (ltb text least_text) _ _ enough ∙ not_done s.stage _ going ∙ ap (λ (x : Found). answered (turned m spelled s areas x)) found
+
+-- a turn is taken: what the command answers, and what it leaves of each part
+pub record Taken {M : Type 0} (a : Answer (Turn M)) (t : Turn M) (s : Course M) (text scratch : List ℕ) (table : List Record) : Type 0 where
+  pub answer_is : answered (length (line_text t.line)) ≡ answer_map (λ (x : Turn M). length (line_text x.line)) a
+  pub course_is : t.after ≡ course_left a s
+  pub text_is : over (line_text t.line) text ≡ text_left a text
+  pub scratch_is : scratch_after t.line.answer scratch ≡ scratch_left a scratch
+  pub table_is : table_after t.line.answer table ≡ table_left a table
+
+pub turn_left : {M : Type 0} {a : Answer (Turn M)} {t : Turn M} (s : Course M) (text scratch : List ℕ) (table : List Record) → a ≡ answered t → Taken a t s text scratch table
+turn_left {M} {a} {t} s text scratch table e =
+    subst (λ (b : Answer (Turn M)). Taken b t s text scratch table) (sym e)
+    (record { answer_is = refl; course_is = refl; text_is = refl; scratch_is = refl; table_is = refl })
