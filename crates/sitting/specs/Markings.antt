@@ -19,7 +19,7 @@ use Rattle.meter.specs.declared.record.Record.{Record}
 use Rattle.meter.specs.Days.{Said, step, Right}
 use Rattle.meter.specs.Ledgers.{Ledger, fresh, level_verdict}
 use Rattle.tape.specs.declared.command.Command.{Command}
-use Rattle.tape.specs.Readings.{Found, found, stopped, next_in}
+use Rattle.tape.specs.Readings.{Found, found, stopped, next_command}
 use Rattle.sitting.specs.declared.reply.Reply.{Reply}
 use Rattle.sitting.specs.declared.reply.Reply.TheVariants as reply
 use Rattle.sitting.specs.declared.stage.Stage.{Stage}
@@ -64,7 +64,7 @@ module _ (spelled : List ℕ → Option Code) (areas : Areas) where
   -- for keys of so many bytes and kinds of these numbers, a tape, and a text area of some length
   module _ (key_bytes key_kind counter_kind : ℕ) (tape : List ℕ) (text : ℕ) where
     abbrev pub standing : {M : Type 0} → Course M → Found
-    standing s = next_in key_bytes key_kind counter_kind s.place tape
+    standing s = next_command key_bytes key_kind counter_kind s.place tape
 
     abbrev pub Marks : Course Ledger → List Line → Course Ledger → Type 0
     Marks s [] e = (is_over text s.stage ≡ true) × (e ≡ s)

@@ -7,7 +7,7 @@ use Rattle.flow.specs.Limits.{most_tape}
 use Rattle.tape.specs.declared.command.Command.{Command}
 use Rattle.tape.specs.declared.command.Command.TheVariants as command
 use Rattle.tape.specs.Commands.{due, command_named, command_at, size}
-use Rattle.tape.specs.Readings.{found, stopped, placed, first_from, command_from, next_in}
+use Rattle.tape.specs.Readings.{found, stopped, placed, first_command, command_from, next_command}
 
 due_fits : (n : ℕ) (operands : List ℕ) (x c : Command (List ℕ)) → due n operands x ≡ answered c → (x ≡ c) × (n ≤ length operands)
 due_fits n operands x c e =
@@ -48,7 +48,7 @@ module _ (key_bytes : ℕ) where
       (h.0, omega (arith, h.1, length-drop place tape))
 
   module _ (key_kind counter_kind : ℕ) where
-    first_fits : (tape : List ℕ) (o : ℕ) (c : Command (List ℕ)) (end : ℕ) → first_from key_bytes key_kind counter_kind tape ≡ found o c end → (0 < end) × (end ≤ length tape)
+    first_fits : (tape : List ℕ) (o : ℕ) (c : Command (List ℕ)) (end : ℕ) → first_command key_bytes key_kind counter_kind tape ≡ found o c end → (0 < end) × (end ≤ length tape)
     first_fits [] o c end = λ e. cc
     first_fits (a ∷ []) o c end = by (eqb a key_kind)
       where
@@ -62,10 +62,10 @@ module _ (key_bytes : ℕ) where
         by true false e = cc
         by false f e = cc
 
-    pub ahead : (place : ℕ) (tape : List ℕ) (o : ℕ) (c : Command (List ℕ)) (end : ℕ) → next_in key_bytes key_kind counter_kind place tape ≡ found o c end → (place < end) × (end ≤ most_tape)
+    pub ahead : (place : ℕ) (tape : List ℕ) (o : ℕ) (c : Command (List ℕ)) (end : ℕ) → next_command key_bytes key_kind counter_kind place tape ≡ found o c end → (place < end) × (end ≤ most_tape)
     ahead place tape o c end = by (ltb most_tape (length tape)) (eqb place 0) refl refl
       where
-        by : (d f : Bool) → ltb most_tape (length tape) ≡ d → eqb place 0 ≡ f → cond d (stopped 19 0) (cond f (first_from key_bytes key_kind counter_kind tape) (command_from key_bytes place tape)) ≡ found o c end → (place < end) × (end ≤ most_tape)
+        by : (d f : Bool) → ltb most_tape (length tape) ≡ d → eqb place 0 ≡ f → cond d (stopped 19 0) (cond f (first_command key_bytes key_kind counter_kind tape) (command_from key_bytes place tape)) ≡ found o c end → (place < end) × (end ≤ most_tape)
         by true f short is e = cc
         by false true short is e =
             let h = first_fits tape o c end e in

@@ -1,11 +1,11 @@
 -- Reading a tape from a place on. Assumes nothing.
---   Found          a command, with the offset of its first byte and that of what follows it, or the number and the offset of a refusal
---   placed_found   a command on the tape, by the bytes of its key
---   found_of       what a reading found
---   placed         a command at an offset, or the refusal there
---   command_from   the command at a place
---   first_from     the first command, behind the two bytes of the kinds: a kind byte that differs is refused with 15, one that is missing with 16, each at its own offset
---   next_in        the next command from a place on: 19 at offset 0 where the tape is too long
+--   Found           a command, with the offset of its first byte and that of what follows it, or the number and the offset of a refusal
+--   placed_found    a command on the tape, by the bytes of its key
+--   found_of        what a reading found
+--   placed          a command at an offset, or the refusal there
+--   command_from    the command at a place
+--   first_command   the first command, behind the two bytes of the kinds: a kind byte that differs is refused with 15, one that is missing with 16, each at its own offset
+--   next_command    the next command from a place on: 19 at offset 0 where the tape is too long
 use Rattle.std.specs.Prelude.{ℕ, ◌+◌, cond, List, [], ◌∷◌, length, drop, Ok, Err, Result, ◌==◌, nat_lt}
 use Rattle.flow.specs.Answers.{Answer, answered, refused}
 use Rattle.flow.specs.Limits.{most_tape}
@@ -37,12 +37,12 @@ module _ (key_bytes : ℕ) where
 
   -- for a key kind and a counter kind of these numbers
   module _ (key_kind counter_kind : ℕ) where
-    abbrev pub first_from : List ℕ → Found
-    first_from [] = stopped 16 0
-    first_from (a ∷ []) = cond (a == key_kind) (stopped 16 1) (stopped 15 0)
-    first_from (a ∷ b ∷ rest) =
+    abbrev pub first_command : List ℕ → Found
+    first_command [] = stopped 16 0
+    first_command (a ∷ []) = cond (a == key_kind) (stopped 16 1) (stopped 15 0)
+    first_command (a ∷ b ∷ rest) =
         cond (a == key_kind) (cond (b == counter_kind) (placed 2 (command_at key_bytes rest)) (stopped 15 1)) (stopped 15 0)
 
-    abbrev pub next_in : ℕ → List ℕ → Found
-    next_in place tape =
-        cond (nat_lt most_tape (length tape)) (stopped 19 0) (cond (place == 0) (first_from tape) (command_from place tape))
+    abbrev pub next_command : ℕ → List ℕ → Found
+    next_command place tape =
+        cond (nat_lt most_tape (length tape)) (stopped 19 0) (cond (place == 0) (first_command tape) (command_from place tape))
