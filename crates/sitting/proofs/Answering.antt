@@ -30,8 +30,8 @@ lines_read (reply.LevelSet h) table = refl
 lines_read (reply.Tried h rs) table = ap (reply.Tried h) (front_records rs table)
 lines_read reply.Closed table = refl
 
-pub reply_read : (a : Answer (Reply (List Record))) (x : Result (Reply ℕ) Refusal) (r : Reply ℕ) (offset : ℕ) (table later : List Record) → x ≡ Ok r → told x ≡ counted a → later ≡ table_after a table →
-    reply_lines (reply_map (λ n. take n later) r) ≡ answer_text offset a
+pub reply_read : (a : Answer (Reply (List Record))) (x : Result (Reply ℕ) Refusal) (r : Reply ℕ) (offset : ℕ) (table later : List Record) →
+    x ≡ Ok r → told x ≡ counted a → later ≡ table_after a table → reply_lines (reply_map (λ n. take n later) r) ≡ answer_text offset a
 reply_read (answered y) x r offset table later is e table_is =
     let same : r ≡ reply_map length y = let k = sym (ap told is) ∙ e in cc in
     (λ i. reply_lines (reply_map (λ n. take n (table_is i)) (same i))) ∙ ap reply_lines (lines_read y table)

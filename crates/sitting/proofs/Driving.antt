@@ -149,6 +149,6 @@ whole_tape m spelled areas key_bytes key_kind counter_kind tape length_of_text x
     subst (λ (s : Course (State m.Model)). Drives (turns spelled areas key_bytes key_kind counter_kind tape length_of_text m most_turns s) s last lines text text' scratch scratch' table table') is d
 
 -- the last line behind the others
-pub lines_ended : {M : Type 0} {ts : List (Turn M)} {first last : Course M} {lines text text' scratch scratch' : List ℕ} {table table' : List Record} → Drives ts first last lines text text' scratch scratch' table table' →
-    (whole end : List ℕ) → whole ≡ lines ++ end → end ≡ last_text last → whole ≡ lines_text (lines_of ts) ++ last_text (ended first ts)
+pub lines_ended : {M : Type 0} {ts : List (Turn M)} {first last : Course M} {lines text text' scratch scratch' : List ℕ} {table table' : List Record} →
+    Drives ts first last lines text text' scratch scratch' table table' → (whole end : List ℕ) → whole ≡ lines ++ end → end ≡ last_text last → whole ≡ lines_text (lines_of ts) ++ last_text (ended first ts)
 lines_ended d whole end is end_is = is ∙ (λ i. d.lines_is i ++ (end_is ∙ ap last_text d.course_is) i)

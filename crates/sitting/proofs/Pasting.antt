@@ -9,7 +9,8 @@ pub record Written (xs : List ℕ) (at : ℕ) (bytes text : List ℕ) (end : ℕ
   pub bytes_stand : text ≡ pasted xs at bytes
   pub end_is : end ≡ at + length bytes
 
-pasted_more : (xs : List ℕ) (at : ℕ) (ys zs : List ℕ) → at + length ys + length zs ≤ length xs → pasted (pasted xs at ys) (at + length ys) zs ≡ pasted xs at (ys ++ zs)
+pasted_more : (xs : List ℕ) (at : ℕ) (ys zs : List ℕ) → at + length ys + length zs ≤ length xs →
+    pasted (pasted xs at ys) (at + length ys) zs ≡ pasted xs at (ys ++ zs)
 pasted_more xs at ys zs room =
     let front : List ℕ = take at xs ++ ys in
     let rest : List ℕ = drop (at + length ys) xs in
@@ -18,11 +19,13 @@ pasted_more xs at ys zs room =
     let before : take (at + length ys) (pasted xs at ys) ≡ front = ap (take (at + length ys)) whole ∙ take_at front rest (at + length ys) size in
     let behind : drop (at + length ys) (pasted xs at ys) ≡ rest = ap (drop (at + length ys)) whole ∙ drop_at front rest (at + length ys) size in
     let left : drop (at + length ys + length zs) (pasted xs at ys) ≡ drop (at + length (ys ++ zs)) xs =
-    sym (drop-drop (length zs) (at + length ys) (pasted xs at ys)) ∙ ap (drop (length zs)) behind ∙ drop-drop (length zs) (at + length ys) xs ∙ ap (λ n. drop n xs) (simp length-append (omega arith)) in
+    sym (drop-drop (length zs) (at + length ys) (pasted xs at ys)) ∙ ap (drop (length zs)) behind ∙
+    drop-drop (length zs) (at + length ys) xs ∙ ap (λ n. drop n xs) (simp length-append (omega arith)) in
     rw (before, left) (simp append_assoc)
 
 -- the bytes that are pasted next stand behind them
-pub written_more : {xs ys text next : List ℕ} {at end far : ℕ} (zs : List ℕ) → Written xs at ys text end → next ≡ pasted text end zs → far ≡ end + length zs → at + length ys + length zs ≤ length xs → Written xs at (ys ++ zs) next far
+pub written_more : {xs ys text next : List ℕ} {at end far : ℕ} (zs : List ℕ) → Written xs at ys text end → next ≡ pasted text end zs → far ≡ end + length zs →
+    at + length ys + length zs ≤ length xs → Written xs at (ys ++ zs) next far
 written_more {xs} {ys} {text} {next} {at} {end} {far} zs w e f room = record {
   bytes_stand = e ∙ rw (w.bytes_stand, w.end_is) (pasted_more xs at ys zs room);
   end_is = simp length-append (omega (arith, w.end_is));
@@ -38,7 +41,8 @@ pub pasted_front : (xs bytes : List ℕ) → pasted xs 0 bytes ≡ over bytes xs
 pasted_front xs bytes = rw zero-add
 
 -- the lines of flows stand behind the line before them
-pub written_behind : {text next : List ℕ} {end far : ℕ} (xs ys zs : List ℕ) → text ≡ pasted xs 0 ys → end ≡ 0 + length ys → next ≡ pasted text end zs → far ≡ end + length zs → length ys + length zs ≤ length xs → (next ≡ over (ys ++ zs) xs) × (far ≡ length (ys ++ zs))
+pub written_behind : {text next : List ℕ} {end far : ℕ} (xs ys zs : List ℕ) → text ≡ pasted xs 0 ys → end ≡ 0 + length ys →
+    next ≡ pasted text end zs → far ≡ end + length zs → length ys + length zs ≤ length xs → (next ≡ over (ys ++ zs) xs) × (far ≡ length (ys ++ zs))
 written_behind xs ys zs e f g h room =
     let both = written_more {xs = xs} {at = 0} zs (record { bytes_stand = e; end_is = f }) g h (omega arith) in
     (both.bytes_stand ∙ pasted_front xs (ys ++ zs), omega (arith, both.end_is))

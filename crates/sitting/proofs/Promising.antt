@@ -41,7 +41,7 @@ module _ {C : Type 0} (m : Meaning C) (opens : Opens m) (flushes : Flushes m) (a
   asked_holds s l (refused n) h = h
 
   module _ (spelled : List ℕ → Option Code) (areas : Areas) where
-    pub turn_holds : (s : Course (State m.Model)) (l : Ledger) (f : Found) → Holds m s.meter l → Holds m (turned m spelled s areas f).after.meter (ledger_at spelled areas l s.stage f)
+    turn_holds : (s : Course (State m.Model)) (l : Ledger) (f : Found) → Holds m s.meter l → Holds m (turned m spelled s areas f).after.meter (ledger_at spelled areas l s.stage f)
     turn_holds s l (found offset c end) h = asked_holds s.meter l (asked spelled areas s.stage c) h
     turn_holds s l (stopped n offset) h = h
 
@@ -49,7 +49,8 @@ module _ {C : Type 0} (m : Meaning C) (opens : Opens m) (flushes : Flushes m) (a
     line_right s l (found offset c end) h = (refl, answer_right s.meter l c (asked spelled areas s.stage c) h)
     line_right s l (stopped n offset) h = refl
 
-    line_after : (s : Course (State m.Model)) (l : Ledger) (f : Found) → with_ledger (turned m spelled s areas f).after (ledger_at spelled areas l s.stage f) ≡ after_line spelled areas (with_ledger s l) f (turned m spelled s areas f).line
+    line_after : (s : Course (State m.Model)) (l : Ledger) (f : Found) →
+        with_ledger (turned m spelled s areas f).after (ledger_at spelled areas l s.stage f) ≡ after_line spelled areas (with_ledger s l) f (turned m spelled s areas f).line
     line_after s l (found offset c end) = refl
     line_after s l (stopped n offset) = refl
 
@@ -76,10 +77,12 @@ module _ {C : Type 0} (m : Meaning C) (opens : Opens m) (flushes : Flushes m) (a
       -- whatever stands on the tape, the meter after the next turn is what the ledger after it says
       pub next_holds : (s later : Course (State m.Model)) (l : Ledger) → later ≡ course_left (next_turn m spelled key_bytes key_kind counter_kind s tape text areas) s → Holds m s.meter l →
           Holds m later.meter (after (next_turn m spelled key_bytes key_kind counter_kind s tape text areas) l (ledger_at spelled areas l s.stage (here s)))
-      next_holds s later l is h = subst (λ (c : Course (State m.Model)). Holds m c.meter (after (next_turn m spelled key_bytes key_kind counter_kind s tape text areas) l (ledger_at spelled areas l s.stage (here s)))) (sym is) (elim (goes_on s) [
-        | inl (over, (n, e)) ↦ subst Held (sym e) h
-        | inr (on, e) ↦ subst Held (sym e) (turn_holds s l (here s) h)
-      ])
+      next_holds s later l is h =
+          subst (λ (c : Course (State m.Model)). Holds m c.meter (after (next_turn m spelled key_bytes key_kind counter_kind s tape text areas) l (ledger_at spelled areas l s.stage (here s)))) (sym is)
+          (elim (goes_on s) [
+            | inl (over, (n, e)) ↦ subst Held (sym e) h
+            | inr (on, e) ↦ subst Held (sym e) (turn_holds s l (here s) h)
+          ])
         where
           Held : Answer (Turn (State m.Model)) → Type 0
           Held a = Holds m (course_left a s).meter (after a l (ledger_at spelled areas l s.stage (here s)))
@@ -106,8 +109,15 @@ module _ {C : Type 0} (m : Meaning C) (opens : Opens m) (flushes : Flushes m) (a
       prints_more : (s : Course (State m.Model)) (l : Ledger) (ts : List (Turn (State m.Model))) → Holds m s.meter l → is_over text s.stage ≡ false →
           Prints (turned m spelled s areas (here s)).after (ledger_at spelled areas l s.stage (here s)) ts → Prints s l (turned m spelled s areas (here s) ∷ ts)
       unfolding Prints
-      prints_more s l ts h on (e, rest) =
-          (e, (on, line_right s l (here s) h, subst (λ (c : Course Ledger). Marks spelled areas key_bytes key_kind counter_kind tape text c (lines_of ts) (with_ledger (ended (turned m spelled s areas (here s)).after ts) e)) (line_after s l (here s)) rest))
+      prints_more s l ts h on (e, rest) = (
+        e,
+        (
+          on,
+          line_right s l (here s) h,
+          subst (λ (c : Course Ledger). Marks spelled areas key_bytes key_kind counter_kind tape text c (lines_of ts) (with_ledger (ended (turned m spelled s areas (here s)).after ts) e))
+              (line_after s l (here s)) rest,
+        ),
+      )
 
       marks : (n : ℕ) (s : Course (State m.Model)) (l : Ledger) → Holds m s.meter l → Enough n s → Prints s l (the_turns n s)
       unfolding Prints Enough turns
@@ -125,4 +135,5 @@ module _ {C : Type 0} (m : Meaning C) (opens : Opens m) (flushes : Flushes m) (a
       unfolding Prints Enough
       marked x =
           let r = marks most_turns (begun (unplanned x)) (fresh (m.greatest x)) (new_holds m x) (inr (omega arith, omega arith)) in
-          (lines_of (tape_turns spelled areas key_bytes key_kind counter_kind tape text m x), with_ledger (ended (begun (unplanned x)) (tape_turns spelled areas key_bytes key_kind counter_kind tape text m x)) r.0, r.1, refl)
+          let ts = tape_turns spelled areas key_bytes key_kind counter_kind tape text m x in
+          (lines_of ts, with_ledger (ended (begun (unplanned x)) ts) r.0, r.1, refl)

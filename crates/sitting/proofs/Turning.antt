@@ -23,8 +23,8 @@ not_done (stage.Planned s) a going = refl
 not_done (stage.Done e) a going = absurd (going e refl)
 
 -- where the text area is long enough and the sitting is not done, what stands on the tape decides
-pub turn_taken : {C : Type 0} (m : Meaning C) (spelled : List ℕ → Option Code) (key_bytes key_kind counter_kind : ℕ) (s : Course (State m.Model)) (tape : List ℕ) (text : ℕ) (areas : Areas) (place : ℕ) (f : Found) →
-    place ≡ s.place → f ≡ next_command key_bytes key_kind counter_kind place tape → least_text ≤ text → ((e : Ending) → s.stage ≡ stage.Done e → ⊥) →
+pub turn_taken : {C : Type 0} (m : Meaning C) (spelled : List ℕ → Option Code) (key_bytes key_kind counter_kind : ℕ)
+    (s : Course (State m.Model)) (tape : List ℕ) (text : ℕ) (areas : Areas) (place : ℕ) (f : Found) → place ≡ s.place → f ≡ next_command key_bytes key_kind counter_kind place tape → least_text ≤ text → ((e : Ending) → s.stage ≡ stage.Done e → ⊥) →
     next_turn m spelled key_bytes key_kind counter_kind s tape text areas ≡ answered (turned m spelled s areas f)
 turn_taken m spelled key_bytes key_kind counter_kind s tape text areas place f at is room going =
     let enough : ltb text least_text ≡ false = grind (arith, nat_tests) in

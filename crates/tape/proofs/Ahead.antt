@@ -34,11 +34,14 @@ module _ (key_bytes : ℕ) where
   command_fits [] c e = cc
   command_fits (byte ∷ operands) c e = omega (arith, named_fits byte operands c e)
 
-  placed_fits : (offset : ℕ) (bytes : List ℕ) (o : ℕ) (c : Command (List ℕ)) (end : ℕ) → placed key_bytes offset (command_at key_bytes bytes) ≡ found o c end → (offset < end) × (end ≤ offset + length bytes)
+  placed_fits : (offset : ℕ) (bytes : List ℕ) (o : ℕ) (c : Command (List ℕ)) (end : ℕ) →
+      placed key_bytes offset (command_at key_bytes bytes) ≡ found o c end → (offset < end) × (end ≤ offset + length bytes)
   placed_fits offset bytes o c end = by (command_at key_bytes bytes) refl
     where
       by : (a : Answer (Command (List ℕ))) → command_at key_bytes bytes ≡ a → placed key_bytes offset a ≡ found o c end → (offset < end) × (end ≤ offset + length bytes)
-      by (answered x) is e = let same : x ≡ c = cc in let sum : offset + size key_bytes x ≡ end = cc in
+      by (answered x) is e =
+          let same : x ≡ c = cc in
+          let sum : offset + size key_bytes x ≡ end = cc in
           (omega (arith, some_byte x), omega (arith, command_fits bytes x is))
       by (refused n) is e = cc
 
@@ -65,7 +68,8 @@ module _ (key_bytes : ℕ) where
     pub ahead : (place : ℕ) (tape : List ℕ) (o : ℕ) (c : Command (List ℕ)) (end : ℕ) → next_command key_bytes key_kind counter_kind place tape ≡ found o c end → (place < end) × (end ≤ most_tape)
     ahead place tape o c end = by (ltb most_tape (length tape)) (eqb place 0) refl refl
       where
-        by : (d f : Bool) → ltb most_tape (length tape) ≡ d → eqb place 0 ≡ f → cond d (stopped 19 0) (cond f (first_command key_bytes key_kind counter_kind tape) (command_from key_bytes place tape)) ≡ found o c end → (place < end) × (end ≤ most_tape)
+        by : (d f : Bool) → ltb most_tape (length tape) ≡ d → eqb place 0 ≡ f →
+            cond d (stopped 19 0) (cond f (first_command key_bytes key_kind counter_kind tape) (command_from key_bytes place tape)) ≡ found o c end → (place < end) × (end ≤ most_tape)
         by true f short is e = cc
         by false true short is e =
             let h = first_fits tape o c end e in

@@ -7,7 +7,10 @@ use Rattle.sitting.proofs.lines.last_line.Goals.{in-Closed, in-Broken}
 
 pub paste_line-end-requires : goal.paste_line-end-requires
 paste_line-end-requires c =
-    let six : length c.match-ending.word.now ≤ 6 = elim c.match-ending.branch [ in-Closed w ↦ omega (arith, ap (λ word. length word.now) w.word-is) | in-Broken w ↦ omega (arith, ap (λ word. length word.now) w.word-is) ] in
+    let six : length c.match-ending.word.now ≤ 6 = elim c.match-ending.branch [
+      | in-Closed w ↦ omega (arith, ap (λ word. length word.now) w.word-is)
+      | in-Broken w ↦ omega (arith, ap (λ word. length word.now) w.word-is)
+    ] in
     let five : length (decimal c.args.packets) ≤ 5 = length-decimal-le 5 c.args.packets (omega arith) (omega arith) (omega arith) in
     let fifteen : length (decimal c.args.volume) ≤ 15 = length-decimal-le 15 c.args.volume (omega arith) (omega arith) (omega arith) in
     simp length-append (omega arith)

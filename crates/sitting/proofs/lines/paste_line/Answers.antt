@@ -9,13 +9,15 @@ use Rattle.sitting.specs.Lines.{line, spaced, pasted}
 use Rattle.sitting.proofs.Pasting.{Written, written_more, joined_more}
 use Rattle.sitting.proofs.lines.paste_line.Goals as goal
 
-room_for : (at size : ℕ) (word numbers : List ℕ) (i : ℕ) → i < length numbers → at + length (line word numbers) ≤ size → at + length (word ++ flat_map spaced (take i numbers)) + 1 + length (decimal (get_or numbers i 0)) ≤ size
+room_for : (at size : ℕ) (word numbers : List ℕ) (i : ℕ) → i < length numbers → at + length (line word numbers) ≤ size →
+    at + length (word ++ flat_map spaced (take i numbers)) + 1 + length (decimal (get_or numbers i 0)) ≤ size
 room_for at size word numbers i low room =
     let some : length (flat_map spaced (take i numbers)) + length (spaced (get_or numbers i 0)) ≤ length (flat_map spaced numbers) = length-flat_map-take spaced numbers i 0 low in
     simp length-append (omega (arith, simp length-append at some, simp length-append at room))
 
 -- a line stands once its newline is pasted
-written_last : {xs text next : List ℕ} {end far : ℕ} (at : ℕ) (word numbers : List ℕ) (i : ℕ) → length numbers ≤ i → at + length (line word numbers) ≤ length xs → Written xs at (word ++ flat_map spaced (take i numbers)) text end → next ≡ pasted text end (codes "\n") → far ≡ end + 1 → Written xs at (line word numbers) next far
+written_last : {xs text next : List ℕ} {end far : ℕ} (at : ℕ) (word numbers : List ℕ) (i : ℕ) → length numbers ≤ i → at + length (line word numbers) ≤ length xs →
+    Written xs at (word ++ flat_map spaced (take i numbers)) text end → next ≡ pasted text end (codes "\n") → far ≡ end + 1 → Written xs at (line word numbers) next far
 written_last at word numbers i last room w e f =
     let whole : take i numbers ≡ numbers = take_all i numbers last in
     written_more (codes "\n") (rw whole at w) e f (simp length-append (omega (arith, simp length-append at room)))

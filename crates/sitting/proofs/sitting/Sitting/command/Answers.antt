@@ -16,7 +16,8 @@ returns-in-Ok g c =
     let s = course_of m c.args.self.now in
     let areas = lent c.args.scratch.now c.args.table.now in
     let found = sym (ap (found_of (λ key. key.now)) c.in-Ok.is) ∙ c.next_command.ensures.found in
-    let t = turn_taken m g.K.FlowKey.spelled g.K.FlowKey.BYTES g.K.TapeKind.NUMBER g.C.TapeKind.NUMBER s c.args.tape.now (length c.args.text.now) areas _ _ c.place.ensures found c.if-text-lt-LEAST_TEXT.false c.in_default.not-Done in
+    let t = turn_taken m g.K.FlowKey.spelled g.K.FlowKey.BYTES g.K.TapeKind.NUMBER g.C.TapeKind.NUMBER s c.args.tape.now (length c.args.text.now) areas _ _
+    c.place.ensures found c.if-text-lt-LEAST_TEXT.false c.in_default.not-Done in
     let left = turn_left s c.args.text.now c.args.scratch.now c.args.table.now t in
     let course = λ (l : Ledger) (h : Holds m s.meter l). c.take.ensures.course l h ∙ left.course_is in
     record {
@@ -28,7 +29,8 @@ returns-in-Ok g c =
       unchanged = tt;
       nothing_touched = tt;
       refusals = λ n r. absurd (refused_not n _ (sym r ∙ t));
-      holds = λ l h. next_holds m met.opens met.flushes met.adds met.heavy g.K.FlowKey.spelled areas g.K.FlowKey.BYTES g.K.TapeKind.NUMBER g.C.TapeKind.NUMBER c.args.tape.now (length c.args.text.now) s _ l (course l h) h;
+      holds = λ l h.
+          next_holds m met.opens met.flushes met.adds met.heavy g.K.FlowKey.spelled areas g.K.FlowKey.BYTES g.K.TapeKind.NUMBER g.C.TapeKind.NUMBER c.args.tape.now (length c.args.text.now) s _ l (course l h) h;
       within = c.take.ensures.within;
     }
 
@@ -39,7 +41,8 @@ returns-in-Err g c =
     let s = course_of m c.args.self.now in
     let areas = lent c.args.scratch.now c.args.table.now in
     let found = sym (ap (found_of (λ key. key.now)) c.in-Err.is) ∙ c.next_command.ensures.found in
-    let t = turn_taken m g.K.FlowKey.spelled g.K.FlowKey.BYTES g.K.TapeKind.NUMBER g.C.TapeKind.NUMBER s c.args.tape.now (length c.args.text.now) areas _ _ c.place.ensures found c.if-text-lt-LEAST_TEXT.false c.in_default.not-Done in
+    let t = turn_taken m g.K.FlowKey.spelled g.K.FlowKey.BYTES g.K.TapeKind.NUMBER g.C.TapeKind.NUMBER s c.args.tape.now (length c.args.text.now) areas _ _
+    c.place.ensures found c.if-text-lt-LEAST_TEXT.false c.in_default.not-Done in
     let left = turn_left s c.args.text.now c.args.scratch.now c.args.table.now t in
     record {
       answer = λ l h. ap answered c.print_refusal.ensures.bytes ∙ left.answer_is;
@@ -50,6 +53,7 @@ returns-in-Err g c =
       unchanged = tt;
       nothing_touched = tt;
       refusals = λ n r. absurd (refused_not n _ (sym r ∙ t));
-      holds = λ l h. next_holds m met.opens met.flushes met.adds met.heavy g.K.FlowKey.spelled areas g.K.FlowKey.BYTES g.K.TapeKind.NUMBER g.C.TapeKind.NUMBER c.args.tape.now (length c.args.text.now) s _ l left.course_is h;
+      holds = λ l h.
+          next_holds m met.opens met.flushes met.adds met.heavy g.K.FlowKey.spelled areas g.K.FlowKey.BYTES g.K.TapeKind.NUMBER g.C.TapeKind.NUMBER c.args.tape.now (length c.args.text.now) s _ l left.course_is h;
       within = c.print_refusal.ensures.within;
     }
