@@ -1,5 +1,5 @@
 -- How answers are printed.
-use Rattle.std.proofs.Common.{◌≡◌, ℕ, List, ◌++◌, length, take, drop, Result, Ok, Err, refl, ap, sym, ◌∙◌}
+use Rattle.std.proofs.Common.{◌≡◌, ℕ, List, length, take, drop, Result, Ok, Err, refl, ap, sym, ◌∙◌}
 use Rattle.std.proofs.Math.Seq.{take-append_seam}
 use Rattle.flow.specs.Answers.{Answer, answered, refused, told}
 use Rattle.flow.specs.Refusals.{number}
@@ -15,31 +15,31 @@ use Rattle.sitting.specs.Lines.{reply_map, reply_lines, refusal_line}
 use Rattle.sitting.specs.Sittings.{counted}
 use Rattle.sitting.specs.Turns.{answer_text, table_after}
 
--- the records at the front of the table are those of the reply
-front_records : (rs table : List Record) → take (length rs) (rs ++ drop (length rs) table) ≡ rs
-front_records rs table = take-append_seam rs (drop (length rs) table)
+-- the records of a reply are read from the front of the table
+records_read : (r : Reply (List Record)) (table : List Record) → reply_map (λ n. take n (table_after (answered r) table)) (reply_map length r) ≡ r
+records_read reply.Opened table = refl
+records_read (reply.Took x) table = refl
+records_read (reply.Estimated e) table = refl
+records_read (reply.Listed rs) table = ap reply.Listed (take-append_seam rs (drop (length rs) table))
+records_read reply.Restarted table = refl
+records_read (reply.LevelSet h) table = refl
+records_read (reply.Tried h rs) table = ap (reply.Tried h) (take-append_seam rs (drop (length rs) table))
+records_read reply.Closed table = refl
 
--- what is printed for an answer, from what was said of it without its records
-lines_read : (r : Reply (List Record)) (table : List Record) → reply_map (λ n. take n (table_after (answered r) table)) (reply_map length r) ≡ r
-lines_read reply.Opened table = refl
-lines_read (reply.Took x) table = refl
-lines_read (reply.Estimated e) table = refl
-lines_read (reply.Listed rs) table = ap reply.Listed (front_records rs table)
-lines_read reply.Restarted table = refl
-lines_read (reply.LevelSet h) table = refl
-lines_read (reply.Tried h rs) table = ap (reply.Tried h) (front_records rs table)
-lines_read reply.Closed table = refl
-
+-- what is printed for an answer that is known but for its records
 pub reply_read : (a : Answer (Reply (List Record))) (x : Result (Reply ℕ) Refusal) (r : Reply ℕ) (offset : ℕ) (table later : List Record) →
     x ≡ Ok r → told x ≡ counted a → later ≡ table_after a table → reply_lines (reply_map (λ n. take n later) r) ≡ answer_text offset a
 reply_read (answered y) x r offset table later is e table_is =
     let same : r ≡ reply_map length y = let k = sym (ap told is) ∙ e in cc in
-    (λ i. reply_lines (reply_map (λ n. take n (table_is i)) (same i))) ∙ ap reply_lines (lines_read y table)
+    (λ i. reply_lines (reply_map (λ n. take n (table_is i)) (same i))) ∙ ap reply_lines (records_read y table)
 reply_read (refused n) x r offset table later is e table_is = let k = sym (ap told is) ∙ e in cc
 
-pub refusal_read : (a : Answer (Reply (List Record))) (x : Result (Reply ℕ) Refusal) (n : Refusal) (offset : ℕ) → x ≡ Err n → told x ≡ counted a → refusal_line (number n) offset ≡ answer_text offset a
+pub refusal_read : (a : Answer (Reply (List Record))) (x : Result (Reply ℕ) Refusal) (n : Refusal) (offset : ℕ) →
+    x ≡ Err n → told x ≡ counted a → refusal_line (number n) offset ≡ answer_text offset a
 refusal_read (answered y) x n offset is e = let k = sym (ap told is) ∙ e in cc
-refusal_read (refused k) x n offset is e = let same : number n ≡ k = let q = sym (ap told is) ∙ e in cc in ap (λ (j : ℕ). refusal_line j offset) same
+refusal_read (refused k) x n offset is e =
+    let same : number n ≡ k = let q = sym (ap told is) ∙ e in cc in
+    ap (λ (j : ℕ). refusal_line j offset) same
 
 -- the weight that is accepted is one, whatever form key and records have
 pub accepted_read : {A B : Type 0} (f : A → B) (c : Command A) (a : Answer (Reply (List Record))) → accepted c (counted a) ≡ accepted (command_map f c) a

@@ -51,6 +51,7 @@ module _ {M : Type 0} where
   by_turns [] x = x
   by_turns (t ∷ ts) x = by_turns ts (by_turn t x)
 
+  -- the lines of turns stand behind those before, and any other part is what the turns leave of it
   lines_by : (ts : List (Turn M)) (x : Stand M) → (by_turns ts x).lines ≡ x.lines ++ lines_text (lines_of ts)
   lines_by [] x = sym (append-nil x.lines)
   lines_by (t ∷ ts) x = lines_by ts (by_turn t x) ∙ append_assoc x.lines (line_text t.line) (lines_text (lines_of ts))
@@ -141,12 +142,12 @@ module _ {C : Type 0} (m : Meaning C) (spelled : List ℕ → Option Code) (key_
           }
 
 -- turns that begin on the course of a new sitting are those of the whole tape
-pub whole_tape : {C : Type 0} (m : Meaning C) (spelled : List ℕ → Option Code) (areas : Areas) (key_bytes key_kind counter_kind : ℕ) (tape : List ℕ) (length_of_text : ℕ) (x : m.Model)
+pub whole_tape : {C : Type 0} (m : Meaning C) (spelled : List ℕ → Option Code) (areas : Areas) (key_bytes key_kind counter_kind : ℕ) (tape : List ℕ) (room : ℕ) (x : m.Model)
     {first last : Course (State m.Model)} {lines text text' scratch scratch' : List ℕ} {table table' : List Record} → first ≡ begun (unplanned x) →
-    Drives (turns spelled areas key_bytes key_kind counter_kind tape length_of_text m most_turns first) first last lines text text' scratch scratch' table table' →
-    Drives (tape_turns spelled areas key_bytes key_kind counter_kind tape length_of_text m x) (begun (unplanned x)) last lines text text' scratch scratch' table table'
-whole_tape m spelled areas key_bytes key_kind counter_kind tape length_of_text x {first} {last} {lines} {text} {text'} {scratch} {scratch'} {table} {table'} is d =
-    subst (λ (s : Course (State m.Model)). Drives (turns spelled areas key_bytes key_kind counter_kind tape length_of_text m most_turns s) s last lines text text' scratch scratch' table table') is d
+    Drives (turns spelled areas key_bytes key_kind counter_kind tape room m most_turns first) first last lines text text' scratch scratch' table table' →
+    Drives (tape_turns spelled areas key_bytes key_kind counter_kind tape room m x) (begun (unplanned x)) last lines text text' scratch scratch' table table'
+whole_tape m spelled areas key_bytes key_kind counter_kind tape room x {first} {last} {lines} {text} {text'} {scratch} {scratch'} {table} {table'} is d =
+    subst (λ (s : Course (State m.Model)). Drives (turns spelled areas key_bytes key_kind counter_kind tape room m most_turns s) s last lines text text' scratch scratch' table table') is d
 
 -- the last line behind the others
 pub lines_ended : {M : Type 0} {ts : List (Turn M)} {first last : Course M} {lines text text' scratch scratch' : List ℕ} {table table' : List Record} →

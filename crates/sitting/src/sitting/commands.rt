@@ -5,9 +5,9 @@ ghost use Rattle.flow.specs.Limits.{least_text, most_tape};
 ghost use Rattle.meter.specs.Holding.{Holds};
 ghost use Rattle.meter.specs.Ledgers.{Ledger};
 ghost use Rattle.sitting.specs.Courses.{accepted};
+ghost use Rattle.sitting.specs.Lines.{over};
 ghost use Rattle.sitting.specs.Markings.{ledger_left};
 ghost use Rattle.sitting.specs.Sittings.{course_of, lent, turn_at, turn_of};
-ghost use Rattle.sitting.specs.Lines.{over};
 ghost use Rattle.sitting.specs.Turns.{line_text, table_after, scratch_after, course_left, text_left, table_left, scratch_left};
 ghost use Rattle.tape.specs.Readings.{placed_found};
 
@@ -37,6 +37,7 @@ fn accepted(command: Command<&[u8]>, answer: Result<Reply<usize>, Refusal>) -> O
 
 impl<K: FlowKey + TapeKind + Drop, C: FrameCounter + TapeKind> Sitting<K, C> {
     // Reads the next command of the tape and answers it: its lines stand at the front of the text then, and their length is told.
+    // Where the text is too short or the sitting is done, nothing is read or written.
     pub fn command(
         &mut self,
         tape: &[u8],

@@ -69,6 +69,7 @@ impl<K: FlowKey + Drop, C: FrameCounter> Sitting<K, C> {
         match (&mut self.stage, command) {
             (Stage::Unplanned, Command::Plan(plan)) => {
                 self.meter.plan(plan)?;
+                // A plan was just accepted, so there is a unit.
                 self.stage = Stage::Planned(Settings::of(self.meter.unit().unwrap_or(0)));
                 Ok(Reply::Opened)
             }
