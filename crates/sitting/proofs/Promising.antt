@@ -12,7 +12,7 @@ use Rattle.meter.specs.States.{State, unplanned}
 use Rattle.meter.proofs.Dailies.{call_right, call_holds}
 use Rattle.meter.proofs.Holdings.{new_holds}
 use Rattle.tape.specs.declared.command.Command.{Command}
-use Rattle.tape.specs.Readings.{Found, found, stopped}
+use Rattle.tape.specs.Readings.{Found, found, stopped, next_command}
 use Rattle.tape.proofs.Ahead.{ahead}
 use Rattle.sitting.specs.declared.reply.Reply.TheVariants as reply
 use Rattle.sitting.specs.declared.stage.Stage.{Stage}
@@ -20,7 +20,7 @@ use Rattle.sitting.specs.declared.stage.Stage.TheVariants as stage
 use Rattle.sitting.specs.Courses.{Course, begun, Ask, calls, sets, closes, asked}
 use Rattle.sitting.specs.Turns.{Turn, unless_done, answer_of, meter_after, turned, next_turn, course_left}
 use Rattle.frame.specs.declared.plan.Plan.{Plan}
-use Rattle.sitting.specs.Markings.{ledger_after, ledger_at, AnswerRight, is_over, LineRight, after_line, standing, Marks, Marked}
+use Rattle.sitting.specs.Markings.{ledger_after, ledger_at, AnswerRight, is_over, LineRight, after_line, Marks, Marked}
 use Rattle.sitting.specs.Tapes.{most_turns, lines_of, turns_from, turns, ended, tape_turns, tape_text}
 
 -- a course with a ledger in place of its meter
@@ -56,7 +56,7 @@ module _ {C : Type 0} (m : Meaning C) (opens : Opens m) (flushes : Flushes m) (a
 
     module _ (key_bytes key_kind counter_kind : ℕ) (tape : List ℕ) (text : ℕ) where
       abbrev here : Course (State m.Model) → Found
-      here s = standing spelled areas key_bytes key_kind counter_kind tape text s
+      here s = next_command key_bytes key_kind counter_kind s.place tape
 
       -- a sitting is over, and then no turn is taken, or it goes on
       goes_on : (s : Course (State m.Model)) →

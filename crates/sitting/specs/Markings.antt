@@ -6,10 +6,9 @@
 --   ledger_at      the ledger after what stands on the tape
 --   LineRight      what may be said of what stands on the tape
 --   after_line     the course after that, with the ledger in place of the meter
---   standing       what stands on the tape at the place of a course
+--   ledger_left    the ledger after a turn
 --   Marks          what may be said of the commands of a tape, one after the other, until it is over
 --   Marked         what may be printed for a whole tape over a counter of this greatest step: the guarantee
---   ledger_left    the ledger after a turn
 use Rattle.std.specs.Prelude.{◌≡◌, ℕ, Bool, true, false, List, [], ◌∷◌, ◌++◌, Option, nat_lt}
 use Rattle.flow.specs.Answers.{Answer, answered, refused, answer_map, after}
 use Rattle.flow.specs.Limits.{least_text}
@@ -61,17 +60,18 @@ module _ (spelled : List ℕ → Option Code) (areas : Areas) where
   after_line s (found offset c end) t = advanced s c end t.answer (ledger_at s.meter s.stage (found offset c end))
   after_line s (stopped n offset) t = broken s
 
-  -- for keys of so many bytes and kinds of these numbers, a tape, and a text area of some length
-  module _ (key_bytes key_kind counter_kind : ℕ) (tape : List ℕ) (text : ℕ) where
-    abbrev pub standing : {M : Type 0} → Course M → Found
-    standing s = next_command key_bytes key_kind counter_kind s.place tape
-
-    abbrev pub Marks : Course Ledger → List Line → Course Ledger → Type 0
-    Marks s [] e = (is_over text s.stage ≡ true) × (e ≡ s)
-    Marks s (t ∷ ts) e = (is_over text s.stage ≡ false) × LineRight s (standing s) t × Marks (after_line s (standing s) t) ts e
-
-    abbrev pub Marked : ℕ → List ℕ → Type 0
-    Marked greatest lines = (ts : List Line) × (e : Course Ledger) × Marks (begun (fresh greatest)) ts e × (lines ≡ lines_text ts ++ last_text e)
-
+  -- for keys of so many bytes and kinds of these numbers, and a tape
+  module _ (key_bytes key_kind counter_kind : ℕ) (tape : List ℕ) where
     abbrev pub ledger_left : {M : Type 0} → Course M → Answer (Turn M) → Ledger → Ledger
-    ledger_left s t l = after t l (ledger_at l s.stage (standing s))
+    ledger_left s t l = after t l (ledger_at l s.stage (next_command key_bytes key_kind counter_kind s.place tape))
+
+    -- and a text area of some length
+    module _ (text : ℕ) where
+      abbrev pub Marks : Course Ledger → List Line → Course Ledger → Type 0
+      Marks s [] e = (is_over text s.stage ≡ true) × (e ≡ s)
+      Marks s (t ∷ ts) e =
+          let here = next_command key_bytes key_kind counter_kind s.place tape in
+          (is_over text s.stage ≡ false) × LineRight s here t × Marks (after_line s here t) ts e
+
+      abbrev pub Marked : ℕ → List ℕ → Type 0
+      Marked greatest lines = (ts : List Line) × (e : Course Ledger) × Marks (begun (fresh greatest)) ts e × (lines ≡ lines_text ts ++ last_text e)

@@ -53,7 +53,7 @@ impl<K: FlowKey + TapeKind + Drop, C: FrameCounter + TapeKind> Sitting<K, C> {
         ensures unchanged { Unchanged result self.old self.new }
         ensures nothing_touched { OnErr result ((text.new ≡ text.old) × (scratch.new ≡ scratch.old) × (table.new ≡ table.old)) }
         ensures refusals { (n : ℕ) → turn_of C.meaning K.spelled K.BYTES K.NUMBER C.NUMBER self.old tape.now text.old scratch.old table.old ≡ refused n → told result ≡ refused n }
-        ensures holds { (l : Ledger) → Holds C.meaning (course_of C.meaning self.old).meter l → Holds C.meaning (course_of C.meaning self.new).meter (ledger_left K.spelled (lent scratch.old table.old) K.BYTES K.NUMBER C.NUMBER tape.now (length text.old) (course_of C.meaning self.old) (turn_of C.meaning K.spelled K.BYTES K.NUMBER C.NUMBER self.old tape.now text.old scratch.old table.old) l) }
+        ensures holds { (l : Ledger) → Holds C.meaning (course_of C.meaning self.old).meter l → Holds C.meaning (course_of C.meaning self.new).meter (ledger_left K.spelled (lent scratch.old table.old) K.BYTES K.NUMBER C.NUMBER tape.now (course_of C.meaning self.old) (turn_of C.meaning K.spelled K.BYTES K.NUMBER C.NUMBER self.old tape.now text.old scratch.old table.old) l) }
         ensures within { IfOk result (λ n. n ≤ length text.old) }
     {
         if text.len() < LEAST_TEXT {
