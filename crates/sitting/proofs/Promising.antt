@@ -1,6 +1,6 @@
 -- The guarantee over a whole tape, from what each turn keeps.
 use Rattle.std.proofs.Common.{◌≡◌, ℕ, ◌+◌, ◌<◌, ◌≤◌, ◌⊎◌, Bool, true, false, cond, ltb, List, ◌∷◌, Option, refl, ap, sym, subst, inl, inr, arith, zero, suc}
-use Rattle.flow.specs.Answers.{Answer, answered, refused, answer_map, after}
+use Rattle.flow.specs.Answers.{Answer, answered, refused, answer_map}
 use Rattle.flow.specs.Limits.{least_text, most_tape}
 use Rattle.flow.specs.Meanings.{Meaning, Opens, Flushes, Adds, Heavy}
 use Rattle.flow.specs.declared.code.Code.{Code}
@@ -20,7 +20,7 @@ use Rattle.sitting.specs.declared.stage.Stage.TheVariants as stage
 use Rattle.sitting.specs.Courses.{Course, begun, Ask, calls, sets, closes, asked}
 use Rattle.sitting.specs.Turns.{Turn, unless_done, answer_of, meter_after, turned, next_turn, course_left}
 use Rattle.frame.specs.declared.plan.Plan.{Plan}
-use Rattle.sitting.specs.Markings.{ledger_after, ledger_at, AnswerRight, is_over, LineRight, after_line, Marks, Marked}
+use Rattle.sitting.specs.Markings.{ledger_after, ledger_at, AnswerRight, is_over, LineRight, after_line, ledger_left, Marks, Marked}
 use Rattle.sitting.specs.Tapes.{most_turns, lines_of, turns_from, turns, ended, tape_turns, tape_text}
 
 -- a course with a ledger in place of its meter
@@ -58,10 +58,13 @@ module _ {C : Type 0} (m : Meaning C) (opens : Opens m) (flushes : Flushes m) (a
       abbrev here : Course (State m.Model) → Found
       here s = next_command key_bytes key_kind counter_kind s.place tape
 
+      abbrev next : Course (State m.Model) → Answer (Turn (State m.Model))
+      next s = next_turn m spelled key_bytes key_kind counter_kind s tape text areas
+
       -- a sitting is over, and then no turn is taken, or it goes on
       goes_on : (s : Course (State m.Model)) →
-          ((is_over text s.stage ≡ true) × ((n : ℕ) × (next_turn m spelled key_bytes key_kind counter_kind s tape text areas ≡ refused n))) ⊎
-          ((is_over text s.stage ≡ false) × (next_turn m spelled key_bytes key_kind counter_kind s tape text areas ≡ answered (turned m spelled s areas (here s))))
+          ((is_over text s.stage ≡ true) × ((n : ℕ) × (next s ≡ refused n))) ⊎
+          ((is_over text s.stage ≡ false) × (next s ≡ answered (turned m spelled s areas (here s))))
       goes_on s = by s.stage (ltb text least_text) refl (turned m spelled s areas (here s))
         where
           by : (g : Stage) (b : Bool) → ltb text least_text ≡ b → (t : Turn (State m.Model)) →
@@ -75,17 +78,17 @@ module _ {C : Type 0} (m : Meaning C) (opens : Opens m) (flushes : Flushes m) (a
           by (stage.Done x) false e t = inl (refl, (17, refl))
 
       -- whatever stands on the tape, the meter after the next turn is what the ledger after it says
-      pub next_holds : (s later : Course (State m.Model)) (l : Ledger) → later ≡ course_left (next_turn m spelled key_bytes key_kind counter_kind s tape text areas) s → Holds m s.meter l →
-          Holds m later.meter (after (next_turn m spelled key_bytes key_kind counter_kind s tape text areas) l (ledger_at spelled areas l s.stage (here s)))
+      pub next_holds : (s later : Course (State m.Model)) (l : Ledger) → later ≡ course_left (next s) s → Holds m s.meter l →
+          Holds m later.meter (ledger_left spelled areas key_bytes key_kind counter_kind tape s (next s) l)
       next_holds s later l is h =
-          subst (λ (c : Course (State m.Model)). Holds m c.meter (after (next_turn m spelled key_bytes key_kind counter_kind s tape text areas) l (ledger_at spelled areas l s.stage (here s)))) (sym is)
+          subst (λ (c : Course (State m.Model)). Holds m c.meter (ledger_left spelled areas key_bytes key_kind counter_kind tape s (next s) l)) (sym is)
           (elim (goes_on s) [
             | inl (over, (n, e)) ↦ subst Held (sym e) h
             | inr (on, e) ↦ subst Held (sym e) (turn_holds s l (here s) h)
           ])
         where
           Held : Answer (Turn (State m.Model)) → Type 0
-          Held a = Holds m (course_left a s).meter (after a l (ledger_at spelled areas l s.stage (here s)))
+          Held a = Holds m (course_left a s).meter (ledger_left spelled areas key_bytes key_kind counter_kind tape s a l)
 
       -- so many turns are enough
       Enough : ℕ → Course (State m.Model) → Type 0
@@ -109,15 +112,10 @@ module _ {C : Type 0} (m : Meaning C) (opens : Opens m) (flushes : Flushes m) (a
       prints_more : (s : Course (State m.Model)) (l : Ledger) (ts : List (Turn (State m.Model))) → Holds m s.meter l → is_over text s.stage ≡ false →
           Prints (turned m spelled s areas (here s)).after (ledger_at spelled areas l s.stage (here s)) ts → Prints s l (turned m spelled s areas (here s) ∷ ts)
       unfolding Prints
-      prints_more s l ts h on (e, rest) = (
-        e,
-        (
-          on,
-          line_right s l (here s) h,
-          subst (λ (c : Course Ledger). Marks spelled areas key_bytes key_kind counter_kind tape text c (lines_of ts) (with_ledger (ended (turned m spelled s areas (here s)).after ts) e))
-              (line_after s l (here s)) rest,
-        ),
-      )
+      prints_more s l ts h on (e, rest) =
+          let last = with_ledger (ended (turned m spelled s areas (here s)).after ts) e in
+          let more = subst (λ (c : Course Ledger). Marks spelled areas key_bytes key_kind counter_kind tape text c (lines_of ts) last) (line_after s l (here s)) rest in
+          (e, (on, line_right s l (here s) h, more))
 
       marks : (n : ℕ) (s : Course (State m.Model)) (l : Ledger) → Holds m s.meter l → Enough n s → Prints s l (the_turns n s)
       unfolding Prints Enough turns
