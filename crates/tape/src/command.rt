@@ -2,7 +2,7 @@
 ghost use Rattle.std.specs.Prelude.{◌≡◌, ◌+◌, length, take, drop, IfOk};
 ghost use Rattle.flow.specs.Answers.{told, answer_map};
 ghost use Rattle.flow.specs.Spellings.{be16, be32, be64};
-ghost use Rattle.tape.specs.Commands.{plan_of, command_map, due, command_at, size};
+ghost use Rattle.tape.specs.Commands.{plan_bytes, level_bytes, weight_bytes, plan_of, command_map, due, command_at, size};
 
 use flow::key::FlowKey;
 use flow::refusal::Refusal;
@@ -59,9 +59,9 @@ fn plan_from(
 
 // The plan at the front of some bytes, and what follows it.
 fn read_plan(bytes: &[u8]) -> Result<(Plan, &[u8]), Refusal>
-    ensures value { answer_map (λ p. p.0) (told result) ≡ due 16 bytes.now (plan_of bytes.now) }
-    ensures rest { IfOk result (λ p. p.1.now ≡ drop 16 bytes.now) }
-    ensures whole { IfOk result (λ p. 16 + length p.1.now ≡ length bytes.now) }
+    ensures value { answer_map (λ p. p.0) (told result) ≡ due plan_bytes bytes.now (plan_of bytes.now) }
+    ensures rest { IfOk result (λ p. p.1.now ≡ drop plan_bytes bytes.now) }
+    ensures whole { IfOk result (λ p. plan_bytes + length p.1.now ≡ length bytes.now) }
 {
     let [
         n1,
@@ -93,9 +93,9 @@ fn read_plan(bytes: &[u8]) -> Result<(Plan, &[u8]), Refusal>
 
 // The level at the front of some bytes, and what follows it.
 fn read_level(bytes: &[u8]) -> Result<(u64, &[u8]), Refusal>
-    ensures value { answer_map (λ p. p.0) (told result) ≡ due 8 bytes.now (be64 bytes.now 0) }
-    ensures rest { IfOk result (λ p. p.1.now ≡ drop 8 bytes.now) }
-    ensures whole { IfOk result (λ p. 8 + length p.1.now ≡ length bytes.now) }
+    ensures value { answer_map (λ p. p.0) (told result) ≡ due level_bytes bytes.now (be64 bytes.now 0) }
+    ensures rest { IfOk result (λ p. p.1.now ≡ drop level_bytes bytes.now) }
+    ensures whole { IfOk result (λ p. level_bytes + length p.1.now ≡ length bytes.now) }
 {
     let [h7, h6, h5, h4, h3, h2, h1, h0, rest @ ..] = bytes else {
         return Err(Refusal::TapeEnds);
@@ -108,9 +108,9 @@ fn read_level(bytes: &[u8]) -> Result<(u64, &[u8]), Refusal>
 
 // The weight at the front of some bytes, and what follows it.
 fn read_weight(bytes: &[u8]) -> Result<(u32, &[u8]), Refusal>
-    ensures value { answer_map (λ p. p.0) (told result) ≡ due 4 bytes.now (be32 bytes.now 0) }
-    ensures rest { IfOk result (λ p. p.1.now ≡ drop 4 bytes.now) }
-    ensures whole { IfOk result (λ p. 4 + length p.1.now ≡ length bytes.now) }
+    ensures value { answer_map (λ p. p.0) (told result) ≡ due weight_bytes bytes.now (be32 bytes.now 0) }
+    ensures rest { IfOk result (λ p. p.1.now ≡ drop weight_bytes bytes.now) }
+    ensures whole { IfOk result (λ p. weight_bytes + length p.1.now ≡ length bytes.now) }
 {
     let [w3, w2, w1, w0, rest @ ..] = bytes else {
         return Err(Refusal::TapeEnds);
