@@ -12,7 +12,7 @@ use Rattle.meter.specs.States.{State, unplanned}
 use Rattle.meter.proofs.Dailies.{call_right, call_holds}
 use Rattle.meter.proofs.Holdings.{new_holds}
 use Rattle.tape.specs.declared.command.Command.{Command}
-use Rattle.tape.specs.Readings.{Found, found, stopped, next_command}
+use Rattle.tape.specs.Readings.{Found, found, stopped, next_in}
 use Rattle.tape.proofs.Ahead.{ahead}
 use Rattle.sitting.specs.declared.reply.Reply.TheVariants as reply
 use Rattle.sitting.specs.declared.stage.Stage.{Stage}
@@ -56,7 +56,7 @@ module _ {C : Type 0} (m : Meaning C) (opens : Opens m) (flushes : Flushes m) (a
 
     module _ (key_bytes key_kind counter_kind : ℕ) (tape : List ℕ) (text : ℕ) where
       abbrev here : Course (State m.Model) → Found
-      here s = next_command key_bytes key_kind counter_kind s.place tape
+      here s = next_in key_bytes key_kind counter_kind s.place tape
 
       abbrev next : Course (State m.Model) → Answer (Turn (State m.Model))
       next s = next_turn m spelled key_bytes key_kind counter_kind s tape text areas

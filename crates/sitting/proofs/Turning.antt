@@ -9,7 +9,7 @@ use Rattle.flow.specs.declared.code.Code.{Code}
 use Rattle.meter.specs.declared.day.Areas.{Areas}
 use Rattle.meter.specs.declared.record.Record.{Record}
 use Rattle.meter.specs.States.{State}
-use Rattle.tape.specs.Readings.{Found, next_command}
+use Rattle.tape.specs.Readings.{Found, next_in}
 use Rattle.sitting.specs.declared.ending.Ending.{Ending}
 use Rattle.sitting.specs.declared.stage.Stage.{Stage}
 use Rattle.sitting.specs.declared.stage.Stage.TheVariants as stage
@@ -24,11 +24,12 @@ not_done (stage.Done e) a going = absurd (going e refl)
 
 -- where the text area is long enough and the sitting is not done, what stands on the tape decides
 pub turn_taken : {C : Type 0} (m : Meaning C) (spelled : List ℕ → Option Code) (key_bytes key_kind counter_kind : ℕ)
-    (s : Course (State m.Model)) (tape : List ℕ) (text : ℕ) (areas : Areas) (place : ℕ) (f : Found) → place ≡ s.place → f ≡ next_command key_bytes key_kind counter_kind place tape → least_text ≤ text → ((e : Ending) → s.stage ≡ stage.Done e → ⊥) →
+    (s : Course (State m.Model)) (tape : List ℕ) (text : ℕ) (areas : Areas) (place : ℕ) (f : Found) →
+    place ≡ s.place → f ≡ next_in key_bytes key_kind counter_kind place tape → least_text ≤ text → ((e : Ending) → s.stage ≡ stage.Done e → ⊥) →
     next_turn m spelled key_bytes key_kind counter_kind s tape text areas ≡ answered (turned m spelled s areas f)
 turn_taken m spelled key_bytes key_kind counter_kind s tape text areas place f at is room going =
     let enough : ltb text least_text ≡ false = grind (arith, nat_tests) in
-    let found : next_command key_bytes key_kind counter_kind s.place tape ≡ f = ap (λ (p : ℕ). next_command key_bytes key_kind counter_kind p tape) (sym at) ∙ sym is in
+    let found : next_in key_bytes key_kind counter_kind s.place tape ≡ f = ap (λ (p : ℕ). next_in key_bytes key_kind counter_kind p tape) (sym at) ∙ sym is in
     cond-false (ltb text least_text) _ _ enough ∙ not_done s.stage _ going ∙ ap (λ (x : Found). answered (turned m spelled s areas x)) found
 
 -- a turn is taken: what the command answers, and what it leaves of each part

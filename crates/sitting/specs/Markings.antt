@@ -18,7 +18,7 @@ use Rattle.meter.specs.declared.record.Record.{Record}
 use Rattle.meter.specs.Days.{Said, step, Right}
 use Rattle.meter.specs.Ledgers.{Ledger, fresh, level_verdict}
 use Rattle.tape.specs.declared.command.Command.{Command}
-use Rattle.tape.specs.Readings.{Found, found, stopped, next_command}
+use Rattle.tape.specs.Readings.{Found, found, stopped, next_in}
 use Rattle.sitting.specs.declared.reply.Reply.{Reply}
 use Rattle.sitting.specs.declared.reply.Reply.TheVariants as reply
 use Rattle.sitting.specs.declared.stage.Stage.{Stage}
@@ -63,14 +63,14 @@ module _ (spelled : List ℕ → Option Code) (areas : Areas) where
   -- for keys of so many bytes and kinds of these numbers, and a tape
   module _ (key_bytes key_kind counter_kind : ℕ) (tape : List ℕ) where
     abbrev pub ledger_left : {M : Type 0} → Course M → Answer (Turn M) → Ledger → Ledger
-    ledger_left s t l = after t l (ledger_at l s.stage (next_command key_bytes key_kind counter_kind s.place tape))
+    ledger_left s t l = after t l (ledger_at l s.stage (next_in key_bytes key_kind counter_kind s.place tape))
 
     -- and a text area of some length
     module _ (text : ℕ) where
       abbrev pub Marks : Course Ledger → List Line → Course Ledger → Type 0
       Marks s [] e = (is_over text s.stage ≡ true) × (e ≡ s)
       Marks s (t ∷ ts) e =
-          let here = next_command key_bytes key_kind counter_kind s.place tape in
+          let here = next_in key_bytes key_kind counter_kind s.place tape in
           (is_over text s.stage ≡ false) × LineRight s here t × Marks (after_line s here t) ts e
 
       abbrev pub Marked : ℕ → List ℕ → Type 0

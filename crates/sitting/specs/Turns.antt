@@ -32,7 +32,7 @@ use Rattle.meter.specs.Sequences.{call_said, call_leaves}
 use Rattle.meter.specs.States.{State, table_leaves, scratch_leaves}
 use Rattle.tape.specs.declared.command.Command.{Command}
 use Rattle.tape.specs.declared.command.Command.TheVariants as command
-use Rattle.tape.specs.Readings.{Found, found, stopped, next_command}
+use Rattle.tape.specs.Readings.{Found, found, stopped, next_in}
 use Rattle.sitting.specs.declared.reply.Reply.{Reply}
 use Rattle.sitting.specs.declared.reply.Reply.TheVariants as reply
 use Rattle.sitting.specs.declared.stage.Stage.{Stage}
@@ -116,7 +116,7 @@ module _ {C : Type 0} (m : Meaning C) where
       abbrev pub next_turn : Course (State m.Model) → List ℕ → ℕ → Areas → Answer (Turn (State m.Model))
       next_turn s tape text areas =
           cond (nat_lt text least_text) (refused 18)
-          (unless_done s.stage (turned s areas (next_command key_bytes key_kind counter_kind s.place tape)))
+          (unless_done s.stage (turned s areas (next_in key_bytes key_kind counter_kind s.place tape)))
 
 module _ {M : Type 0} where
   abbrev pub course_left : Answer (Turn M) → Course M → Course M

@@ -7,7 +7,7 @@ use Rattle.flow.specs.Limits.{most_tape}
 use Rattle.tape.specs.declared.command.Command.{Command}
 use Rattle.tape.specs.declared.command.Command.TheVariants as command
 use Rattle.tape.specs.Commands.{due, command_named, command_at, size}
-use Rattle.tape.specs.Readings.{found, stopped, placed, first_command, command_from, next_command}
+use Rattle.tape.specs.Readings.{found, stopped, placed, first_command, command_from, next_in}
 
 due_fits : (n : ℕ) (operands : List ℕ) (x c : Command (List ℕ)) → due n operands x ≡ answered c → (x ≡ c) × (n ≤ length operands)
 due_fits n operands x c e =
@@ -65,7 +65,7 @@ module _ (key_bytes : ℕ) where
         by true false e = cc
         by false f e = cc
 
-    pub ahead : (place : ℕ) (tape : List ℕ) (o : ℕ) (c : Command (List ℕ)) (end : ℕ) → next_command key_bytes key_kind counter_kind place tape ≡ found o c end → (place < end) × (end ≤ most_tape)
+    pub ahead : (place : ℕ) (tape : List ℕ) (o : ℕ) (c : Command (List ℕ)) (end : ℕ) → next_in key_bytes key_kind counter_kind place tape ≡ found o c end → (place < end) × (end ≤ most_tape)
     ahead place tape o c end = by (ltb most_tape (length tape)) (eqb place 0) refl refl
       where
         by : (d f : Bool) → ltb most_tape (length tape) ≡ d → eqb place 0 ≡ f →
