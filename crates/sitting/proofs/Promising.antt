@@ -1,5 +1,6 @@
 -- The guarantee over a whole tape, from what each turn keeps.
-use Rattle.std.proofs.Common.{◌≡◌, ℕ, ◌+◌, ◌<◌, ◌≤◌, ◌⊎◌, Bool, true, false, cond, ltb, List, ◌∷◌, Option, refl, ap, sym, subst, inl, inr, arith, zero, suc}
+use Rattle.std.proofs.Common.{◌≡◌, ℕ, ◌+◌, ◌<◌, ◌≤◌, ◌⊎◌, Bool, true, false, cond, ltb, List, ◌∷◌, length, take, Option, refl, ap, sym, ◌∙◌, subst, inl, inr, arith, zero, suc}
+use Rattle.std.proofs.Math.Seq.{take-append_seam}
 use Rattle.flow.specs.Answers.{Answer, answered, refused, answer_map}
 use Rattle.flow.specs.Limits.{least_text, most_tape}
 use Rattle.flow.specs.Meanings.{Meaning, Opens, Flushes, Adds, Heavy}
@@ -18,14 +19,11 @@ use Rattle.sitting.specs.declared.reply.Reply.TheVariants as reply
 use Rattle.sitting.specs.declared.stage.Stage.{Stage}
 use Rattle.sitting.specs.declared.stage.Stage.TheVariants as stage
 use Rattle.sitting.specs.Courses.{Course, begun, Ask, calls, sets, closes, asked}
-use Rattle.sitting.specs.Turns.{Turn, unless_done, answer_of, meter_after, turned, next_turn, course_left}
+use Rattle.sitting.specs.Lines.{over}
+use Rattle.sitting.specs.Turns.{line_text, Turn, unless_done, answer_of, meter_after, turned, next_turn, course_left}
 use Rattle.frame.specs.declared.plan.Plan.{Plan}
-use Rattle.sitting.specs.Markings.{ledger_after, ledger_at, AnswerRight, is_over, LineRight, after_line, ledger_left, Marks, Marked}
+use Rattle.sitting.specs.Markings.{ledger_after, with_ledger, ledger_at, AnswerRight, is_over, LineRight, after_line, ledger_left, LinesRight, Marks, Marked}
 use Rattle.sitting.specs.Tapes.{most_turns, lines_of, turns_from, turns, ended, tape_turns, tape_text}
-
--- a course with a ledger in place of its meter
-abbrev with_ledger : {M : Type 0} → Course M → Ledger → Course Ledger
-with_ledger s l = record { place = s.place; stage = s.stage; meter = l; packets = s.packets; volume = s.volume }
 
 module _ {C : Type 0} (m : Meaning C) (opens : Opens m) (flushes : Flushes m) (adds : Adds m) (heavy : Heavy m) where
   answer_right : (s : State m.Model) (l : Ledger) (c : Command (List ℕ)) (q : Answer Ask) → Holds m s l → AnswerRight l c q (answer_of m s c q)
@@ -89,6 +87,16 @@ module _ {C : Type 0} (m : Meaning C) (opens : Opens m) (flushes : Flushes m) (a
         where
           Held : Answer (Turn (State m.Model)) → Type 0
           Held a = Holds m (course_left a s).meter (ledger_left spelled areas key_bytes key_kind counter_kind tape s a l)
+
+      -- a turn that was printed in front of the text is right
+      pub lines_right : (s : Course (State m.Model)) (l : Ledger) (place : ℕ) (f : Found) (n : ℕ) (before now : List ℕ) → place ≡ s.place → f ≡ next_in key_bytes key_kind counter_kind place tape →
+          n ≡ length (line_text (turned m spelled s areas f).line) → now ≡ over (line_text (turned m spelled s areas f).line) before → Holds m s.meter l →
+          LinesRight spelled areas key_bytes key_kind counter_kind tape (with_ledger s l) (take n now)
+      lines_right s l place f n before now same is bytes printed h = (
+        (turned m spelled s areas f).line,
+        subst (λ (x : Found). LineRight spelled areas (with_ledger s l) x (turned m spelled s areas f).line) (is ∙ ap (λ (x : ℕ). next_in key_bytes key_kind counter_kind x tape) same) (line_right s l f h),
+        ap (λ (k : ℕ). take k now) bytes ∙ ap (take (length (line_text (turned m spelled s areas f).line))) printed ∙ take-append_seam (line_text (turned m spelled s areas f).line) _,
+      )
 
       -- so many turns are enough
       Enough : ℕ → Course (State m.Model) → Type 0

@@ -2,11 +2,13 @@
 --   ledger_after   the ledger after what a command asks: what the calls alone decide, the roll of accepted packets among it
 --   AskRight       what an ask may be answered under a ledger: a call on the meter what is right for it, by the true volumes of the roll
 --   AnswerRight    what a command may be answered
+--   with_ledger    a course with a ledger in place of its meter
 --   is_over        no command is taken any more: the text area is too short, or the sitting is done
 --   ledger_at      the ledger after what stands on the tape
 --   LineRight      what may be said of what stands on the tape
 --   after_line     the course after that, with the ledger in place of the meter
 --   ledger_left    the ledger after a turn
+--   LinesRight     what may be printed for what stands on the tape
 --   Marks          what may be said of the commands of a tape, one after the other, until it is over
 --   Marked         what may be printed for a whole tape over a counter of this greatest step: the guarantee
 use Rattle.std.specs.Prelude.{◌≡◌, ℕ, Bool, true, false, List, [], ◌∷◌, ◌++◌, Option, nat_lt}
@@ -25,7 +27,7 @@ use Rattle.sitting.specs.declared.stage.Stage.{Stage}
 use Rattle.sitting.specs.declared.stage.Stage.TheVariants as stage
 use Rattle.sitting.specs.Courses.{Course, begun, Ask, calls, sets, closes, asked, advanced, broken}
 use Rattle.sitting.specs.Tapes.{lines_text, last_text}
-use Rattle.sitting.specs.Turns.{Line, replied, Turn}
+use Rattle.sitting.specs.Turns.{Line, line_text, replied, Turn}
 
 abbrev pub ledger_after : Ledger → Answer Ask → Ledger
 ledger_after l (answered (calls q)) = step (λ k. k) l q
@@ -41,6 +43,9 @@ AskRight l c closes a = a ≡ answered reply.Closed
 abbrev pub AnswerRight : Ledger → Command (List ℕ) → Answer Ask → Answer (Reply (List Record)) → Type 0
 AnswerRight l c (answered q) a = AskRight l c q a
 AnswerRight l c (refused n) a = a ≡ refused n
+
+abbrev pub with_ledger : {M : Type 0} → Course M → Ledger → Course Ledger
+with_ledger s l = record { place = s.place; stage = s.stage; meter = l; packets = s.packets; volume = s.volume }
 
 abbrev pub is_over : ℕ → Stage → Bool
 is_over text (stage.Done e) = true
@@ -64,6 +69,9 @@ module _ (spelled : List ℕ → Option Code) (areas : Areas) where
   module _ (key_bytes key_kind counter_kind : ℕ) (tape : List ℕ) where
     abbrev pub ledger_left : {M : Type 0} → Course M → Answer (Turn M) → Ledger → Ledger
     ledger_left s t l = after t l (ledger_at l s.stage (next_in key_bytes key_kind counter_kind s.place tape))
+
+    abbrev pub LinesRight : Course Ledger → List ℕ → Type 0
+    LinesRight s lines = (t : Line) × LineRight s (next_in key_bytes key_kind counter_kind s.place tape) t × (lines ≡ line_text t)
 
     -- and a text area of some length
     module _ (text : ℕ) where

@@ -1,12 +1,12 @@
 // The command call.
-ghost use Rattle.std.specs.Prelude.{◌≡◌, ℕ, ◌<◌, ◌≤◌, length, IfOk, OnErr};
+ghost use Rattle.std.specs.Prelude.{◌≡◌, ℕ, ◌<◌, ◌≤◌, length, take, IfOk, OnErr};
 ghost use Rattle.flow.specs.Answers.{told, refused, answer_map, Unchanged};
 ghost use Rattle.flow.specs.Limits.{least_text, most_tape};
 ghost use Rattle.meter.specs.Holding.{Holds};
 ghost use Rattle.meter.specs.Ledgers.{Ledger};
 ghost use Rattle.sitting.specs.Courses.{accepted};
 ghost use Rattle.sitting.specs.Lines.{over};
-ghost use Rattle.sitting.specs.Markings.{ledger_left};
+ghost use Rattle.sitting.specs.Markings.{with_ledger, ledger_left, LinesRight};
 ghost use Rattle.sitting.specs.Sittings.{course_of, lent, turn_at, turn_of};
 ghost use Rattle.sitting.specs.Turns.{line_text, table_after, scratch_after, course_left, text_left, table_left, scratch_left};
 ghost use Rattle.tape.specs.Readings.{placed_found};
@@ -53,6 +53,7 @@ impl<K: FlowKey + TapeKind + Drop, C: FrameCounter + TapeKind> Sitting<K, C> {
         ensures unchanged { Unchanged result self.old self.new }
         ensures nothing_touched { OnErr result ((text.new ≡ text.old) × (scratch.new ≡ scratch.old) × (table.new ≡ table.old)) }
         ensures refusals { (n : ℕ) → turn_of C.meaning K.spelled K.BYTES K.NUMBER C.NUMBER self.old tape.now text.old scratch.old table.old ≡ refused n → told result ≡ refused n }
+        ensures guarantee { (l : Ledger) → Holds C.meaning (course_of C.meaning self.old).meter l → IfOk result (λ n. LinesRight K.spelled (lent scratch.old table.old) K.BYTES K.NUMBER C.NUMBER tape.now (with_ledger (course_of C.meaning self.old) l) (take n text.new)) }
         ensures holds { (l : Ledger) → Holds C.meaning (course_of C.meaning self.old).meter l → Holds C.meaning (course_of C.meaning self.new).meter (ledger_left K.spelled (lent scratch.old table.old) K.BYTES K.NUMBER C.NUMBER tape.now (course_of C.meaning self.old) (turn_of C.meaning K.spelled K.BYTES K.NUMBER C.NUMBER self.old tape.now text.old scratch.old table.old) l) }
         ensures within { IfOk result (λ n. n ≤ length text.old) }
     {
