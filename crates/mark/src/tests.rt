@@ -1,7 +1,7 @@
 // Short tapes with the lines that are due for them, reckoned from the rules.
 // A case is its name, the tape in hexadecimal, and the lines. A blank line parts it from the next.
 use crate::marking::mark;
-use flow::limits::{LEAST_SCRATCH, LEAST_TEXT, MOST_MARKS, MOST_TAPE};
+use flow::limits::{LEAST_SCRATCH, LEAST_TEXT, MOST_MARKS};
 use meter::record::Record;
 use std::alloc::{AllocError, Global};
 use std::process::Abort;
@@ -974,15 +974,15 @@ fn long_tape(heap: Global, length: usize) -> Result<Vec<u8>, AllocError> {
 #[test]
 fn a_tape_may_be_too_long(rt: HostRuntime) -> Result<(), Fail> {
     let heap = rt.alloc();
-    let whole = long_tape(heap, MOST_TAPE)?;
-    let longer = long_tape(heap, MOST_TAPE + 1)?;
+    let whole = long_tape(heap, 65_536)?;
+    let longer = long_tape(heap, 65_537)?;
     let marked = lines_of(heap, &whole, AMPLE)?;
     assert_eq!(rt; str::from_utf8(&marked)?, "no 15 2\nbroken 0 0\n");
     let marked = lines_of(heap, &longer, AMPLE)?;
     assert_eq!(rt; str::from_utf8(&marked)?, "no 19 0\nbroken 0 0\n");
     // The text area is looked at before the length of the tape.
     let short = Areas {
-        text: LEAST_TEXT - 1,
+        text: 40_959,
         ..AMPLE
     };
     let marked = lines_of(heap, &longer, short)?;
