@@ -1,8 +1,13 @@
 // Short tapes with the lines that are due for them, reckoned from the rules.
 // A case is its name, the tape in hexadecimal, and the lines. A blank line parts it from the next.
 use crate::marking::mark;
+use flow::code::Code;
 use flow::limits::{LEAST_SCRATCH, LEAST_TEXT, MOST_MARKS};
+use flow::prefix::Prefix;
+use flow::refusal::Refusal;
 use meter::record::Record;
+use semi::SemiOrdered;
+use sitting::sitting::Sitting;
 use std::alloc::{AllocError, Global};
 use std::process::Abort;
 use std::str;
@@ -988,4 +993,147 @@ fn a_tape_may_be_too_long(rt: HostRuntime) -> Result<(), Fail> {
     let marked = lines_of(heap, &longer, short)?;
     assert_eq!(rt; str::from_utf8(&marked)?, "broken 0 0\n");
     Ok(())
+}
+
+// A command call: the tape and the lengths of the areas that are lent, and what is due: the lines or a refusal without one, and the records of a list that is made.
+#[derive(Clone, Copy)]
+struct Call {
+    tape: &'static str,
+    areas: Areas,
+    answer: Result<&'static str, Refusal>,
+    list: Option<&'static [Record]>,
+}
+
+// What stands in each place of the areas before a call.
+const BYTE: u8 = b'.';
+
+const RECORD: Record = Record {
+    code: Code { high: 1, low: 2 },
+    estimate: 3,
+};
+
+// The prefix 10.0.0.0/8 behind two packets of 10.
+const LISTED: Record = Record {
+    code: Code {
+        high: 8,
+        low: 167_772_160,
+    },
+    estimate: 60,
+};
+
+// Makes a call with new areas, and looks at every place of them behind it.
+fn make_call(
+    rt: &impl Abort,
+    heap: Global,
+    sitting: &mut Sitting<Prefix, SemiOrdered>,
+    call: &Call,
+) -> Result<(), Fail> {
+    let tape = bytes_of(heap, call.tape)?;
+    let mut text = vec![in heap; BYTE; call.areas.text]?;
+    let mut scratch = vec![in heap; BYTE; call.areas.scratch]?;
+    let mut table = vec![in heap; RECORD; call.areas.table]?;
+    let answer = sitting.command(&tape, &mut text, &mut scratch, &mut table);
+    let (lines, behind) = text.split_at(answer.unwrap_or(0));
+    let answer = match answer {
+        Ok(_) => Ok(str::from_utf8(lines)?),
+        Err(refusal) => Err(refusal),
+    };
+    assert_eq!(rt; answer, call.answer);
+    assert!(rt; behind.iter().all(|byte| *byte == BYTE));
+    let left = call.list.map_or(BYTE, |_| 0);
+    assert!(rt; scratch.iter().all(|byte| *byte == left));
+    let records = call.list.unwrap_or(&[]);
+    assert!(rt; table.starts_with(records));
+    assert!(rt;
+        table
+            .iter()
+            .skip(records.len())
+            .all(|record| *record == RECORD)
+    );
+    Ok(())
+}
+
+// Makes calls on a new sitting, and finishes it.
+fn sit(rt: &impl Abort, heap: Global, calls: &[Call], last: &str) -> Result<(), Fail> {
+    let (mut sitting, slip) = Sitting::<Prefix, SemiOrdered>::begin(SemiOrdered::new());
+    let made = calls
+        .iter()
+        .try_for_each(|call| make_call(rt, heap, &mut sitting, call));
+    let line = sitting.finish(slip);
+    made?;
+    assert_eq!(rt; str::from_utf8(&line)?, last);
+    Ok(())
+}
+
+// A call with ample areas that makes no list.
+const fn ample(tape: &'static str, lines: &'static str) -> Call {
+    Call {
+        tape,
+        areas: AMPLE,
+        answer: Ok(lines),
+        list: None,
+    }
+}
+
+#[test]
+fn another_tape_is_read_from_the_place_on(rt: HostRuntime) -> Result<(), Fail> {
+    let planned = "0101 010003000000010000000A000000040002";
+    let other = "FFFF FFFFFFFFFFFFFFFFFFFFFFFFFFFFFFFFFF 020A000000080000000A 08";
+    let calls = [
+        ample(planned, "open\n"),
+        ample(other, "took 0\n"),
+        ample(planned, "no 16 29\n"),
+    ];
+    sit(&rt, rt.alloc(), &calls, "broken 1 10\n")
+}
+
+#[test]
+fn a_refusal_without_a_line_touches_nothing(rt: HostRuntime) -> Result<(), Fail> {
+    let tape = "0101 010003000000010000000A000000040002 08";
+    let refused = |text, refusal| Call {
+        tape,
+        areas: Areas { text, ..AMPLE },
+        answer: Err(refusal),
+        list: None,
+    };
+    let calls = [
+        refused(LEAST_TEXT - 1, Refusal::TextTooShort),
+        ample(tape, "open\n"),
+        refused(LEAST_TEXT - 1, Refusal::TextTooShort),
+        ample(tape, ""),
+        refused(LEAST_TEXT, Refusal::NotTakenNow),
+        // The text area is looked at before the state.
+        refused(LEAST_TEXT - 1, Refusal::TextTooShort),
+    ];
+    sit(&rt, rt.alloc(), &calls, "closed 0 0\n")
+}
+
+#[test]
+fn a_refused_trial_list_leaves_the_level(rt: HostRuntime) -> Result<(), Fail> {
+    let tape =
+        "0101 010003000000010000000A000000040002 020A000000080000000A 020A000000080000000A 07000000000000003C 04 07000000000000003C 08";
+    let short = Areas {
+        scratch: LEAST_SCRATCH - 1,
+        ..AMPLE
+    };
+    let calls = [
+        ample(tape, "open\n"),
+        ample(tape, "took 0\n"),
+        ample(tape, "took 0\n"),
+        Call {
+            areas: short,
+            ..ample(tape, "no 12 39\n")
+        },
+        // No flow reaches the standing level of 80.
+        Call {
+            list: Some(&[]),
+            ..ample(tape, "list 0\n")
+        },
+        Call {
+            list: Some(&[LISTED]),
+            ..ample(tape, "trial 60 1\nflow 8 167772160 60\n")
+        },
+        ample(tape, ""),
+    ];
+    sit(&rt, rt.alloc(), &calls, "closed 2 20\n")
 }
