@@ -1,5 +1,5 @@
 -- A whole tape: its lines by the rules. Assumes nothing.
---   most_turns   the turns that are enough for every tape: one more than it has bytes
+--   most_turns   the turns that are enough for every tape: one more than a tape may have bytes
 --   lines_text   the lines of some commands
 --   ending_of    how a sitting ended: broken, unless a close was taken
 --   last_text    the last line of a sitting

@@ -101,7 +101,7 @@ module _ {C : Type 0} (m : Meaning C) where
   meter_after s (answered q) = ask_leaves s q
   meter_after s (refused n) = s
 
-  -- for a kind of key, by the codes that bytes spell, and the lengths of scratch and table
+  -- by the codes that bytes spell
   module _ (spelled : List ℕ → Option Code) where
     abbrev pub answer_in : Course (State m.Model) → Command (List ℕ) → Areas → Answer (Reply (List Record))
     answer_in s c areas = answer_of s.meter c (asked spelled areas s.stage c)
