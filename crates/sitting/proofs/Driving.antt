@@ -13,9 +13,9 @@ use Rattle.meter.specs.Ledgers.{Ledger}
 use Rattle.meter.specs.States.{State, unplanned}
 use Rattle.sitting.specs.declared.sitting.Sitting.{Sitting}
 use Rattle.sitting.specs.Courses.{Course, begun}
-use Rattle.sitting.specs.Turns.{line_text, Turn, next_turn, course_left, text_left, table_left, scratch_left}
+use Rattle.sitting.specs.Turns.{outcome_text, Turn, next_turn, course_left, text_left, table_left, scratch_left}
 use Rattle.sitting.specs.Sittings.{course_of, lent}
-use Rattle.sitting.specs.Tapes.{most_turns, lines_text, last_text, lines_of, ended, left_by, Drives, turns_from, turns, tape_turns}
+use Rattle.sitting.specs.Tapes.{most_turns, lines_text, last_text, outcomes_of, ended, left_by, Drives, turns_from, turns, tape_turns}
 
 -- what a command printed: a turn was taken, or none
 told_answered : {A : Type 0} (f : A → ℕ) (a : Answer A) (n : ℕ) → answered n ≡ answer_map f a → (x : A) × (a ≡ answered x) × (n ≡ f x)
@@ -41,7 +41,7 @@ module _ {M : Type 0} where
   abbrev by_turn : Turn M → Stand M → Stand M
   by_turn t x = record {
     course = t.after;
-    lines = x.lines ++ line_text t.line;
+    lines = x.lines ++ outcome_text t.outcome;
     text = text_left (answered t) x.text;
     scratch = scratch_left (answered t) x.scratch;
     table = table_left (answered t) x.table;
@@ -52,9 +52,9 @@ module _ {M : Type 0} where
   by_turns (t ∷ ts) x = by_turns ts (by_turn t x)
 
   -- the lines of turns stand behind those before, and any other part is what the turns leave of it
-  lines_by : (ts : List (Turn M)) (x : Stand M) → (by_turns ts x).lines ≡ x.lines ++ lines_text (lines_of ts)
+  lines_by : (ts : List (Turn M)) (x : Stand M) → (by_turns ts x).lines ≡ x.lines ++ lines_text (outcomes_of ts)
   lines_by [] x = sym (append-nil x.lines)
-  lines_by (t ∷ ts) x = lines_by ts (by_turn t x) ∙ append_assoc x.lines (line_text t.line) (lines_text (lines_of ts))
+  lines_by (t ∷ ts) x = lines_by ts (by_turn t x) ∙ append_assoc x.lines (outcome_text t.outcome) (lines_text (outcomes_of ts))
 
   part_by : {A : Type 0} (part : Stand M → A) (leaves : Answer (Turn M) → A → A) → ((t : Turn M) (x : Stand M) → part (by_turn t x) ≡ leaves (answered t) (part x)) →
       (ts : List (Turn M)) (x : Stand M) → part (by_turns ts x) ≡ left_by leaves ts (part x)
@@ -66,7 +66,7 @@ module _ {M : Type 0} where
   drives ts x y none is =
       subst (λ (z : Stand M). Drives ts x.course z.course z.lines x.text z.text x.scratch z.scratch x.table z.table) (sym is)
       (record {
-        lines_is = lines_by ts x ∙ ap (λ (lines : List ℕ). lines ++ lines_text (lines_of ts)) none;
+        lines_is = lines_by ts x ∙ ap (λ (lines : List ℕ). lines ++ lines_text (outcomes_of ts)) none;
         course_is = part_by (λ (z : Stand M). z.course) course_left (λ t z. refl) ts x;
         text_is = part_by (λ (z : Stand M). z.text) text_left (λ t z. refl) ts x;
         scratch_is = part_by (λ (z : Stand M). z.scratch) scratch_left (λ t z. refl) ts x;
@@ -85,16 +85,16 @@ module _ {M : Type 0} where
       let l = subst (λ (b : Answer (Turn M)). Left b x y) e left in
       λ i. record { course = l.course_is i; lines = same i; text = l.text_is i; scratch = l.scratch_is i; table = l.table_is i }
 
-  one_taken : (a : Answer (Turn M)) (t : Turn M) (x y : Stand M) → a ≡ answered t → Left a x y → y.lines ≡ x.lines ++ line_text t.line → y ≡ by_turn t x
+  one_taken : (a : Answer (Turn M)) (t : Turn M) (x y : Stand M) → a ≡ answered t → Left a x y → y.lines ≡ x.lines ++ outcome_text t.outcome → y ≡ by_turn t x
   one_taken a t x y e left more =
       let l = subst (λ (b : Answer (Turn M)). Left b x y) e left in
       λ i. record { course = l.course_is i; lines = more i; text = l.text_is i; scratch = l.scratch_is i; table = l.table_is i }
 
   -- the line of a turn stands at the front of the text that it leaves
-  front_line : (a : Answer (Turn M)) (t : Turn M) (x y : Stand M) → a ≡ answered t → Left a x y → take (length (line_text t.line)) y.text ≡ line_text t.line
-  front_line a t x y e left =
+  front_outcome : (a : Answer (Turn M)) (t : Turn M) (x y : Stand M) → a ≡ answered t → Left a x y → take (length (outcome_text t.outcome)) y.text ≡ outcome_text t.outcome
+  front_outcome a t x y e left =
       let l = subst (λ (b : Answer (Turn M)). Left b x y) e left in
-      ap (take (length (line_text t.line))) l.text_is ∙ take-append_seam (line_text t.line) (drop (length (line_text t.line)) x.text)
+      ap (take (length (outcome_text t.outcome))) l.text_is ∙ take-append_seam (outcome_text t.outcome) (drop (length (outcome_text t.outcome)) x.text)
 
 module _ {C : Type 0} (m : Meaning C) (spelled : List ℕ → Option Code) (key_bytes key_kind counter_kind : ℕ) (tape : List ℕ) (first : Stand (State m.Model)) where
   abbrev left : ℕ → Course (State m.Model) → List (Turn (State m.Model))
@@ -124,16 +124,16 @@ module _ {C : Type 0} (m : Meaning C) (spelled : List ℕ → Option Code) (key_
         subst (λ (b : Answer (Turn (State m.Model))). by_turns (turns_from (left n) b) now ≡ by_turns (left most_turns first.course) first) (at_first ∙ is)
         (subst (λ (j : ℕ). by_turns (left j now.course) now ≡ by_turns (left most_turns first.course) first) k_is w.rest_is)
 
-    module _ (r : Result ℕ Refusal) (told_is : told r ≡ answer_map (λ t. length (line_text t.line)) next) (leaves : Left next now later) where
+    module _ (r : Result ℕ Refusal) (told_is : told r ≡ answer_map (λ t. length (outcome_text t.outcome)) next) (leaves : Left next now later) where
       pub way_over : (e : Refusal) → r ≡ Err e → later.lines ≡ now.lines → later ≡ by_turns (left most_turns first.course) first
       way_over e is same =
-          let none = told_refused (λ t. length (line_text t.line)) next (number e) (sym (ap told is) ∙ told_is) in
+          let none = told_refused (λ t. length (outcome_text t.outcome)) next (number e) (sym (ap told is) ∙ told_is) in
           none_taken next (number e) now later none leaves same ∙ rest_from (refused (number e)) none
 
       pub way_goes_on : (bytes : ℕ) → r ≡ Ok bytes → later.lines ≡ now.lines ++ take bytes later.text → (l : Ledger) → Holds m later.course.meter l → OnItsWay n later
       way_goes_on bytes is lines_is l h =
-          let (t, taken, bytes_is) = told_answered (λ (x : Turn (State m.Model)). length (line_text x.line)) next bytes (sym (ap told is) ∙ told_is) in
-          let front = ap (λ (b : ℕ). take b later.text) bytes_is ∙ front_line next t now later taken leaves in
+          let (t, taken, bytes_is) = told_answered (λ (x : Turn (State m.Model)). length (outcome_text x.outcome)) next bytes (sym (ap told is) ∙ told_is) in
+          let front = ap (λ (b : ℕ). take b later.text) bytes_is ∙ front_outcome next t now later taken leaves in
           let one = one_taken next t now later taken leaves (lines_is ∙ ap (λ (x : List ℕ). now.lines ++ x) front) in
           record {
             ledger = l;
@@ -151,5 +151,5 @@ whole_tape m spelled areas key_bytes key_kind counter_kind tape room x {first} {
 
 -- the last line behind the others
 pub lines_ended : {M : Type 0} {ts : List (Turn M)} {first last : Course M} {lines text text' scratch scratch' : List ℕ} {table table' : List Record} →
-    Drives ts first last lines text text' scratch scratch' table table' → (whole end : List ℕ) → whole ≡ lines ++ end → end ≡ last_text last → whole ≡ lines_text (lines_of ts) ++ last_text (ended first ts)
+    Drives ts first last lines text text' scratch scratch' table table' → (whole end : List ℕ) → whole ≡ lines ++ end → end ≡ last_text last → whole ≡ lines_text (outcomes_of ts) ++ last_text (ended first ts)
 lines_ended d whole end is end_is = is ∙ (λ i. d.lines_is i ++ (end_is ∙ ap last_text d.course_is) i)

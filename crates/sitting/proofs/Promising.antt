@@ -20,10 +20,10 @@ use Rattle.sitting.specs.declared.stage.Stage.{Stage}
 use Rattle.sitting.specs.declared.stage.Stage.TheVariants as stage
 use Rattle.sitting.specs.Courses.{Course, begun, Ask, calls, sets, closes, asked}
 use Rattle.sitting.specs.Lines.{over}
-use Rattle.sitting.specs.Turns.{line_text, Turn, unless_done, answer_of, meter_after, turned, next_turn, course_left}
+use Rattle.sitting.specs.Turns.{outcome_text, Turn, unless_done, answer_of, meter_after, turned, next_turn, course_left}
 use Rattle.frame.specs.declared.plan.Plan.{Plan}
-use Rattle.sitting.specs.Markings.{ledger_after, with_ledger, ledger_at, AnswerRight, is_over, LineRight, after_line, ledger_left, LinesRight, Marks, Marked}
-use Rattle.sitting.specs.Tapes.{most_turns, lines_of, turns_from, turns, ended, tape_turns, tape_text}
+use Rattle.sitting.specs.Markings.{ledger_after, with_ledger, ledger_at, AnswerRight, is_over, OutcomeRight, after_outcome, ledger_left, PrintsRight, Outcomes, Marked}
+use Rattle.sitting.specs.Tapes.{most_turns, outcomes_of, turns_from, turns, ended, tape_turns, tape_text}
 
 module _ {C : Type 0} (m : Meaning C) (opens : Opens m) (flushes : Flushes m) (adds : Adds m) (heavy : Heavy m) where
   answer_right : (s : State m.Model) (l : Ledger) (c : Command (List ℕ)) (q : Answer Ask) → Holds m s l → AnswerRight l c q (answer_of m s c q)
@@ -43,14 +43,14 @@ module _ {C : Type 0} (m : Meaning C) (opens : Opens m) (flushes : Flushes m) (a
     turn_holds s l (found offset c end) h = asked_holds s.meter l (asked spelled areas s.stage c) h
     turn_holds s l (stopped n offset) h = h
 
-    line_right : (s : Course (State m.Model)) (l : Ledger) (f : Found) → Holds m s.meter l → LineRight spelled areas (with_ledger s l) f (turned m spelled s areas f).line
-    line_right s l (found offset c end) h = (refl, answer_right s.meter l c (asked spelled areas s.stage c) h)
-    line_right s l (stopped n offset) h = refl
+    outcome_right : (s : Course (State m.Model)) (l : Ledger) (f : Found) → Holds m s.meter l → OutcomeRight spelled areas (with_ledger s l) f (turned m spelled s areas f).outcome
+    outcome_right s l (found offset c end) h = (refl, answer_right s.meter l c (asked spelled areas s.stage c) h)
+    outcome_right s l (stopped n offset) h = refl
 
-    line_after : (s : Course (State m.Model)) (l : Ledger) (f : Found) →
-        with_ledger (turned m spelled s areas f).after (ledger_at spelled areas l s.stage f) ≡ after_line spelled areas (with_ledger s l) f (turned m spelled s areas f).line
-    line_after s l (found offset c end) = refl
-    line_after s l (stopped n offset) = refl
+    outcome_after : (s : Course (State m.Model)) (l : Ledger) (f : Found) →
+        with_ledger (turned m spelled s areas f).after (ledger_at spelled areas l s.stage f) ≡ after_outcome spelled areas (with_ledger s l) f (turned m spelled s areas f).outcome
+    outcome_after s l (found offset c end) = refl
+    outcome_after s l (stopped n offset) = refl
 
     module _ (key_bytes key_kind counter_kind : ℕ) (tape : List ℕ) (text : ℕ) where
       abbrev here : Course (State m.Model) → Found
@@ -89,13 +89,13 @@ module _ {C : Type 0} (m : Meaning C) (opens : Opens m) (flushes : Flushes m) (a
           Held a = Holds m (course_left a s).meter (ledger_left spelled areas key_bytes key_kind counter_kind tape s a l)
 
       -- a turn that was printed in front of the text is right
-      pub lines_right : (s : Course (State m.Model)) (l : Ledger) (place : ℕ) (f : Found) (n : ℕ) (before now : List ℕ) → place ≡ s.place → f ≡ next_in key_bytes key_kind counter_kind place tape →
-          n ≡ length (line_text (turned m spelled s areas f).line) → now ≡ over (line_text (turned m spelled s areas f).line) before → Holds m s.meter l →
-          LinesRight spelled areas key_bytes key_kind counter_kind tape (with_ledger s l) (take n now)
-      lines_right s l place f n before now same is bytes printed h = (
-        (turned m spelled s areas f).line,
-        subst (λ (x : Found). LineRight spelled areas (with_ledger s l) x (turned m spelled s areas f).line) (is ∙ ap (λ (x : ℕ). next_in key_bytes key_kind counter_kind x tape) same) (line_right s l f h),
-        ap (λ (k : ℕ). take k now) bytes ∙ ap (take (length (line_text (turned m spelled s areas f).line))) printed ∙ take-append_seam (line_text (turned m spelled s areas f).line) _,
+      pub prints_right : (s : Course (State m.Model)) (l : Ledger) (place : ℕ) (f : Found) (n : ℕ) (before now : List ℕ) → place ≡ s.place → f ≡ next_in key_bytes key_kind counter_kind place tape →
+          n ≡ length (outcome_text (turned m spelled s areas f).outcome) → now ≡ over (outcome_text (turned m spelled s areas f).outcome) before → Holds m s.meter l →
+          PrintsRight spelled areas key_bytes key_kind counter_kind tape (with_ledger s l) (take n now)
+      prints_right s l place f n before now same is bytes printed h = (
+        (turned m spelled s areas f).outcome,
+        subst (λ (x : Found). OutcomeRight spelled areas (with_ledger s l) x (turned m spelled s areas f).outcome) (is ∙ ap (λ (x : ℕ). next_in key_bytes key_kind counter_kind x tape) same) (outcome_right s l f h),
+        ap (λ (k : ℕ). take k now) bytes ∙ ap (take (length (outcome_text (turned m spelled s areas f).outcome))) printed ∙ take-append_seam (outcome_text (turned m spelled s areas f).outcome) _,
       )
 
       -- so many turns are enough
@@ -115,31 +115,31 @@ module _ {C : Type 0} (m : Meaning C) (opens : Opens m) (flushes : Flushes m) (a
 
       -- turns from a course on print what is right under a ledger
       Prints : Course (State m.Model) → Ledger → List (Turn (State m.Model)) → Type 0
-      Prints s l ts = (e : Ledger) × Marks spelled areas key_bytes key_kind counter_kind tape text (with_ledger s l) (lines_of ts) (with_ledger (ended s ts) e)
+      Prints s l ts = (e : Ledger) × Outcomes spelled areas key_bytes key_kind counter_kind tape text (with_ledger s l) (outcomes_of ts) (with_ledger (ended s ts) e)
 
       prints_more : (s : Course (State m.Model)) (l : Ledger) (ts : List (Turn (State m.Model))) → Holds m s.meter l → is_over text s.stage ≡ false →
           Prints (turned m spelled s areas (here s)).after (ledger_at spelled areas l s.stage (here s)) ts → Prints s l (turned m spelled s areas (here s) ∷ ts)
       unfolding Prints
       prints_more s l ts h on (e, rest) =
           let last = with_ledger (ended (turned m spelled s areas (here s)).after ts) e in
-          let more = subst (λ (c : Course Ledger). Marks spelled areas key_bytes key_kind counter_kind tape text c (lines_of ts) last) (line_after s l (here s)) rest in
-          (e, (on, line_right s l (here s) h, more))
+          let more = subst (λ (c : Course Ledger). Outcomes spelled areas key_bytes key_kind counter_kind tape text c (outcomes_of ts) last) (outcome_after s l (here s)) rest in
+          (e, (on, outcome_right s l (here s) h, more))
 
-      marks : (n : ℕ) (s : Course (State m.Model)) (l : Ledger) → Holds m s.meter l → Enough n s → Prints s l (the_turns n s)
+      outcomes : (n : ℕ) (s : Course (State m.Model)) (l : Ledger) → Holds m s.meter l → Enough n s → Prints s l (the_turns n s)
       unfolding Prints Enough turns
-      marks zero s l h (inl over) = (l, (over, refl))
-      marks zero s l h (inr room) = absurd (omega arith)
-      marks (suc n) s l h room = elim (goes_on s) [
+      outcomes zero s l h (inl over) = (l, (over, refl))
+      outcomes zero s l h (inr room) = absurd (omega arith)
+      outcomes (suc n) s l h room = elim (goes_on s) [
         | inl (over, (k, e)) ↦ subst (λ (a : Answer (Turn (State m.Model))). Prints s l (turns_from (the_turns n) a)) (sym e) (l, (over, refl))
         | inr (on, e) ↦ subst (λ (a : Answer (Turn (State m.Model))). Prints s l (turns_from (the_turns n) a)) (sym e)
             (prints_more s l (the_turns n (turned m spelled s areas (here s)).after) h on
-            (marks n (turned m spelled s areas (here s)).after (ledger_at spelled areas l s.stage (here s)) (turn_holds s l (here s) h) (still_enough n s (here s) refl room on)))
+            (outcomes n (turned m spelled s areas (here s)).after (ledger_at spelled areas l s.stage (here s)) (turn_holds s l (here s) h) (still_enough n s (here s) refl room on)))
       ]
 
       -- the whole guarantee
       pub marked : (x : m.Model) → Marked spelled areas key_bytes key_kind counter_kind tape text (m.greatest x) (tape_text spelled areas key_bytes key_kind counter_kind tape text m x)
       unfolding Prints Enough
       marked x =
-          let r = marks most_turns (begun (unplanned x)) (fresh (m.greatest x)) (new_holds m x) (inr (omega arith, omega arith)) in
+          let r = outcomes most_turns (begun (unplanned x)) (fresh (m.greatest x)) (new_holds m x) (inr (omega arith, omega arith)) in
           let ts = tape_turns spelled areas key_bytes key_kind counter_kind tape text m x in
-          (lines_of ts, with_ledger (ended (begun (unplanned x)) ts) r.0, r.1, refl)
+          (outcomes_of ts, with_ledger (ended (begun (unplanned x)) ts) r.0, r.1, refl)

@@ -15,7 +15,7 @@ use Rattle.sitting.specs.declared.stage.Stage.{Stage}
 use Rattle.sitting.specs.declared.stage.Stage.TheVariants as stage
 use Rattle.sitting.specs.Courses.{Course}
 use Rattle.sitting.specs.Lines.{over}
-use Rattle.sitting.specs.Turns.{line_text, table_after, scratch_after, Turn, unless_done, turned, next_turn, course_left, text_left, table_left, scratch_left}
+use Rattle.sitting.specs.Turns.{outcome_text, table_after, scratch_after, Turn, unless_done, turned, next_turn, course_left, text_left, table_left, scratch_left}
 
 not_done : {A : Type 0} (s : Stage) (a : A) → ((e : Ending) → s ≡ stage.Done e → ⊥) → unless_done s a ≡ answered a
 not_done stage.Unplanned a going = refl
@@ -34,11 +34,11 @@ turn_taken m spelled key_bytes key_kind counter_kind s tape text areas place f a
 
 -- a turn is taken: what the command answers, and what it leaves of each part
 pub record Taken {M : Type 0} (a : Answer (Turn M)) (t : Turn M) (s : Course M) (text scratch : List ℕ) (table : List Record) : Type 0 where
-  pub answer_is : answered (length (line_text t.line)) ≡ answer_map (λ (x : Turn M). length (line_text x.line)) a
+  pub answer_is : answered (length (outcome_text t.outcome)) ≡ answer_map (λ (x : Turn M). length (outcome_text x.outcome)) a
   pub course_is : t.after ≡ course_left a s
-  pub text_is : over (line_text t.line) text ≡ text_left a text
-  pub scratch_is : scratch_after t.line.answer scratch ≡ scratch_left a scratch
-  pub table_is : table_after t.line.answer table ≡ table_left a table
+  pub text_is : over (outcome_text t.outcome) text ≡ text_left a text
+  pub scratch_is : scratch_after t.outcome.answer scratch ≡ scratch_left a scratch
+  pub table_is : table_after t.outcome.answer table ≡ table_left a table
 
 pub turn_left : {M : Type 0} {a : Answer (Turn M)} {t : Turn M} (s : Course M) (text scratch : List ℕ) (table : List Record) → a ≡ answered t → Taken a t s text scratch table
 turn_left {M} {a} {t} s text scratch table e =

@@ -1,16 +1,16 @@
 -- The guarantee over a whole tape, in terms of its commands, their answers and true volumes alone. Assumes nothing.
---   ledger_after   the ledger after what a command asks: what the calls alone decide, the roll of accepted packets among it
---   AskRight       what an ask may be answered under a ledger: a call on the meter what is right for it, by the true volumes of the roll
---   AnswerRight    what a command may be answered
---   with_ledger    a course with a ledger in place of its meter
---   is_over        no command is taken any more: the text area is too short, or the sitting is done
---   ledger_at      the ledger after what stands on the tape
---   LineRight      what may be said of what stands on the tape
---   after_line     the course after that, with the ledger in place of the meter
---   ledger_left    the ledger after a turn
---   LinesRight     what may be printed for what stands on the tape
---   Marks          what may be said of the commands of a tape, one after the other, until it is over
---   Marked         what may be printed for a whole tape over a counter of this greatest step: the guarantee
+--   ledger_after    the ledger after what a command asks: what the calls alone decide, the roll of accepted packets among it
+--   AskRight        what an ask may be answered under a ledger: a call on the meter what is right for it, by the true volumes of the roll
+--   AnswerRight     what a command may be answered
+--   with_ledger     a course with a ledger in place of its meter
+--   is_over         no command is taken any more: the text area is too short, or the sitting is done
+--   ledger_at       the ledger after what stands on the tape
+--   OutcomeRight    what may be said of what stands on the tape
+--   after_outcome   the course after that, with the ledger in place of the meter
+--   ledger_left     the ledger after a turn
+--   PrintsRight     what may be printed for what stands on the tape
+--   Outcomes        what may be said of the commands of a tape, one after the other, until it is over
+--   Marked          what may be printed for a whole tape over a counter of this greatest step: the guarantee
 use Rattle.std.specs.Prelude.{◌≡◌, ℕ, Bool, true, false, List, [], ◌∷◌, ◌++◌, Option, nat_lt}
 use Rattle.flow.specs.Answers.{Answer, answered, refused, answer_map, after}
 use Rattle.flow.specs.Limits.{least_text}
@@ -27,7 +27,7 @@ use Rattle.sitting.specs.declared.stage.Stage.{Stage}
 use Rattle.sitting.specs.declared.stage.Stage.TheVariants as stage
 use Rattle.sitting.specs.Courses.{Course, begun, Ask, calls, sets, closes, asked, advanced, broken}
 use Rattle.sitting.specs.Tapes.{lines_text, last_text}
-use Rattle.sitting.specs.Turns.{Line, line_text, replied, Turn}
+use Rattle.sitting.specs.Turns.{Outcome, outcome_text, replied, Turn}
 
 abbrev pub ledger_after : Ledger → Answer Ask → Ledger
 ledger_after l (answered (calls q)) = step (λ k. k) l q
@@ -57,29 +57,29 @@ module _ (spelled : List ℕ → Option Code) (areas : Areas) where
   ledger_at l s (found offset c end) = ledger_after l (asked spelled areas s c)
   ledger_at l s (stopped n offset) = l
 
-  abbrev pub LineRight : Course Ledger → Found → Line → Type 0
-  LineRight s (found offset c end) t = (t.offset ≡ offset) × AnswerRight s.meter c (asked spelled areas s.stage c) t.answer
-  LineRight s (stopped n offset) t = t ≡ record { offset = offset; answer = refused n }
+  abbrev pub OutcomeRight : Course Ledger → Found → Outcome → Type 0
+  OutcomeRight s (found offset c end) t = (t.offset ≡ offset) × AnswerRight s.meter c (asked spelled areas s.stage c) t.answer
+  OutcomeRight s (stopped n offset) t = t ≡ record { offset = offset; answer = refused n }
 
-  abbrev pub after_line : Course Ledger → Found → Line → Course Ledger
-  after_line s (found offset c end) t = advanced s c end t.answer (ledger_at s.meter s.stage (found offset c end))
-  after_line s (stopped n offset) t = broken s
+  abbrev pub after_outcome : Course Ledger → Found → Outcome → Course Ledger
+  after_outcome s (found offset c end) t = advanced s c end t.answer (ledger_at s.meter s.stage (found offset c end))
+  after_outcome s (stopped n offset) t = broken s
 
   -- for keys of so many bytes and kinds of these numbers, and a tape
   module _ (key_bytes key_kind counter_kind : ℕ) (tape : List ℕ) where
     abbrev pub ledger_left : {M : Type 0} → Course M → Answer (Turn M) → Ledger → Ledger
     ledger_left s t l = after t l (ledger_at l s.stage (next_in key_bytes key_kind counter_kind s.place tape))
 
-    abbrev pub LinesRight : Course Ledger → List ℕ → Type 0
-    LinesRight s lines = (t : Line) × LineRight s (next_in key_bytes key_kind counter_kind s.place tape) t × (lines ≡ line_text t)
+    abbrev pub PrintsRight : Course Ledger → List ℕ → Type 0
+    PrintsRight s lines = (t : Outcome) × OutcomeRight s (next_in key_bytes key_kind counter_kind s.place tape) t × (lines ≡ outcome_text t)
 
     -- and a text area of some length
     module _ (text : ℕ) where
-      abbrev pub Marks : Course Ledger → List Line → Course Ledger → Type 0
-      Marks s [] e = (is_over text s.stage ≡ true) × (e ≡ s)
-      Marks s (t ∷ ts) e =
+      abbrev pub Outcomes : Course Ledger → List Outcome → Course Ledger → Type 0
+      Outcomes s [] e = (is_over text s.stage ≡ true) × (e ≡ s)
+      Outcomes s (t ∷ ts) e =
           let here = next_in key_bytes key_kind counter_kind s.place tape in
-          (is_over text s.stage ≡ false) × LineRight s here t × Marks (after_line s here t) ts e
+          (is_over text s.stage ≡ false) × OutcomeRight s here t × Outcomes (after_outcome s here t) ts e
 
       abbrev pub Marked : ℕ → List ℕ → Type 0
-      Marked greatest lines = (ts : List Line) × (e : Course Ledger) × Marks (begun (fresh greatest)) ts e × (lines ≡ lines_text ts ++ last_text e)
+      Marked greatest lines = (ts : List Outcome) × (e : Course Ledger) × Outcomes (begun (fresh greatest)) ts e × (lines ≡ lines_text ts ++ last_text e)

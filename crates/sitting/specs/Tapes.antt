@@ -1,16 +1,16 @@
 -- A whole tape: its lines by the rules. Assumes nothing.
---   most_turns   the turns that are enough for every tape: one more than a tape may have bytes
---   lines_text   the lines of some commands
---   ending_of    how a sitting ended: broken, unless a close was taken
---   last_text    the last line of a sitting
---   turns_from   a turn, if it is taken, and those that follow it
---   lines_of     what is said of the commands of some turns
---   left_by      what some turns leave, by what each leaves
---   ended        the course at the end of some turns
---   Drives       some turns lead from one course to another, with these lines and these areas
---   turns        the turns of a tape, at most so many
---   tape_turns   the turns of a whole tape
---   tape_text    the lines of a whole tape, the last one too
+--   most_turns    the turns that are enough for every tape: one more than a tape may have bytes
+--   lines_text    the lines of some commands
+--   ending_of     how a sitting ended: broken, unless a close was taken
+--   last_text     the last line of a sitting
+--   turns_from    a turn, if it is taken, and those that follow it
+--   outcomes_of   what is said of the commands of some turns
+--   left_by       what some turns leave, by what each leaves
+--   ended         the course at the end of some turns
+--   Drives        some turns lead from one course to another, with these lines and these areas
+--   turns         the turns of a tape, at most so many
+--   tape_turns    the turns of a whole tape
+--   tape_text     the lines of a whole tape, the last one too
 use Rattle.std.specs.Prelude.{◌≡◌, ℕ, ◌+◌, List, [], ◌∷◌, ◌++◌, map, Option}
 use Rattle.std.proofs.Common.{zero, suc}
 use Rattle.flow.specs.Answers.{Answer, answered, refused}
@@ -26,15 +26,15 @@ use Rattle.sitting.specs.declared.stage.Stage.{Stage}
 use Rattle.sitting.specs.declared.stage.Stage.TheVariants as stage
 use Rattle.sitting.specs.Lines.{last_line}
 use Rattle.sitting.specs.Courses.{Course, begun}
-use Rattle.sitting.specs.Turns.{Line, line_text, Turn, next_turn, course_left, text_left, table_left, scratch_left}
+use Rattle.sitting.specs.Turns.{Outcome, outcome_text, Turn, next_turn, course_left, text_left, table_left, scratch_left}
 
 -- every command takes a byte, and what cannot be read ends the sitting
 abbrev pub most_turns : ℕ
 most_turns = most_tape + 1
 
-abbrev pub lines_text : List Line → List ℕ
+abbrev pub lines_text : List Outcome → List ℕ
 lines_text [] = []
-lines_text (t ∷ ts) = line_text t ++ lines_text ts
+lines_text (t ∷ ts) = outcome_text t ++ lines_text ts
 
 abbrev pub ending_of : Stage → Ending
 ending_of (stage.Done e) = e
@@ -49,8 +49,8 @@ module _ {M : Type 0} where
   turns_from more (answered t) = t ∷ more t.after
   turns_from more (refused n) = []
 
-  abbrev pub lines_of : List (Turn M) → List Line
-  lines_of ts = map (λ (t : Turn M). t.line) ts
+  abbrev pub outcomes_of : List (Turn M) → List Outcome
+  outcomes_of ts = map (λ (t : Turn M). t.outcome) ts
 
   abbrev pub left_by : {A : Type 0} → (Answer (Turn M) → A → A) → List (Turn M) → A → A
   left_by leaves [] a = a
@@ -61,7 +61,7 @@ module _ {M : Type 0} where
 
 -- some turns lead from one course to another: these lines, and what each area holds before and after
 pub record Drives {M : Type 0} (ts : List (Turn M)) (first last : Course M) (lines text text' scratch scratch' : List ℕ) (table table' : List Record) : Type 0 where
-  pub lines_is : lines ≡ lines_text (lines_of ts)
+  pub lines_is : lines ≡ lines_text (outcomes_of ts)
   pub course_is : last ≡ ended first ts
   pub text_is : text' ≡ left_by text_left ts text
   pub scratch_is : scratch' ≡ left_by scratch_left ts scratch
@@ -77,4 +77,4 @@ module _ (spelled : List ℕ → Option Code) (areas : Areas) (key_bytes key_kin
   tape_turns x = turns most_turns (begun (unplanned x))
 
   abbrev pub tape_text : m.Model → List ℕ
-  tape_text x = lines_text (lines_of (tape_turns x)) ++ last_text (ended (begun (unplanned x)) (tape_turns x))
+  tape_text x = lines_text (outcomes_of (tape_turns x)) ++ last_text (ended (begun (unplanned x)) (tape_turns x))

@@ -1,7 +1,7 @@
 -- The commands of a tape, marked one after the other, by the rules. Assumes nothing.
---   Line            what is said of a command: the offset of its first byte, and its answer
+--   Outcome         what is said of a command: the offset of its first byte, and its answer
 --   answer_text     the lines that are printed for an answer at an offset
---   line_text       the lines that are printed for what is said of a command
+--   outcome_text    the lines that are printed for what is said of a command
 --   table_after     the table after an answer: the records of a list in front
 --   scratch_after   the scratch after an answer: all zero after a list
 --   listed          the reply to a command that lists
@@ -40,7 +40,7 @@ use Rattle.sitting.specs.declared.stage.Stage.TheVariants as stage
 use Rattle.sitting.specs.Lines.{reply_lines, refusal_line, over}
 use Rattle.sitting.specs.Courses.{Course, Ask, calls, sets, closes, asked, advanced, broken}
 
-pub record Line : Type 0 where
+pub record Outcome : Type 0 where
   pub offset : ℕ
   pub answer : Answer (Reply (List Record))
 
@@ -48,8 +48,8 @@ abbrev pub answer_text : ℕ → Answer (Reply (List Record)) → List ℕ
 answer_text offset (answered r) = reply_lines r
 answer_text offset (refused n) = refusal_line n offset
 
-abbrev pub line_text : Line → List ℕ
-line_text t = answer_text t.offset t.answer
+abbrev pub outcome_text : Outcome → List ℕ
+outcome_text t = answer_text t.offset t.answer
 
 abbrev pub table_after : Answer (Reply (List Record)) → List Record → List Record
 table_after (answered (reply.Listed rs)) table = table_leaves (answered rs) table
@@ -74,7 +74,7 @@ replied c says_restarted = answered reply.Restarted
 replied c (says_refused n) = refused n
 
 pub record Turn (M : Type 0) : Type 0 where
-  pub line : Line
+  pub outcome : Outcome
   pub after : Course M
 
 abbrev pub unless_done : {A : Type 0} → Stage → A → Answer A
@@ -108,8 +108,8 @@ module _ {C : Type 0} (m : Meaning C) where
 
     abbrev pub turned : Course (State m.Model) → Areas → Found → Turn (State m.Model)
     turned s areas (found offset c end) =
-        record { line = record { offset = offset; answer = answer_in s c areas }; after = advanced s c end (answer_in s c areas) (meter_after s.meter (asked spelled areas s.stage c)) }
-    turned s areas (stopped n offset) = record { line = record { offset = offset; answer = refused n }; after = broken s }
+        record { outcome = record { offset = offset; answer = answer_in s c areas }; after = advanced s c end (answer_in s c areas) (meter_after s.meter (asked spelled areas s.stage c)) }
+    turned s areas (stopped n offset) = record { outcome = record { offset = offset; answer = refused n }; after = broken s }
 
     -- for keys of so many bytes, and kinds of these numbers
     module _ (key_bytes key_kind counter_kind : ℕ) where
@@ -124,13 +124,13 @@ module _ {M : Type 0} where
   course_left (refused n) s = s
 
   abbrev pub text_left : Answer (Turn M) → List ℕ → List ℕ
-  text_left (answered t) text = over (line_text t.line) text
+  text_left (answered t) text = over (outcome_text t.outcome) text
   text_left (refused n) text = text
 
   abbrev pub table_left : Answer (Turn M) → List Record → List Record
-  table_left (answered t) table = table_after t.line.answer table
+  table_left (answered t) table = table_after t.outcome.answer table
   table_left (refused n) table = table
 
   abbrev pub scratch_left : Answer (Turn M) → List ℕ → List ℕ
-  scratch_left (answered t) scratch = scratch_after t.line.answer scratch
+  scratch_left (answered t) scratch = scratch_after t.outcome.answer scratch
   scratch_left (refused n) scratch = scratch

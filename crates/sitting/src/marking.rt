@@ -41,7 +41,7 @@ impl<K: FlowKey + TapeKind + Drop, C: FrameCounter + TapeKind> Sitting<K, C> {
     }
 }
 
-// Marks a tape: begins a sitting over the counter, takes the commands of the tape until no more is taken, and finishes the sitting. Answers all its lines, the last one too.
+// Outcomes a tape: begins a sitting over the counter, takes the commands of the tape until no more is taken, and finishes the sitting. Answers all its lines, the last one too.
 pub fn mark_tape<K: FlowKey + TapeKind + Drop, C: FrameCounter + TapeKind + Drop>(
     heap: Global,
     counter: C,

@@ -5,7 +5,7 @@ use Rattle.meter.specs.Holding.{Holds}
 use Rattle.meter.specs.Ledgers.{Ledger}
 use Rattle.tape.specs.Readings.{found_of}
 use Rattle.sitting.specs.Sittings.{course_of, lent}
-use Rattle.sitting.proofs.Promising.{next_holds, lines_right}
+use Rattle.sitting.proofs.Promising.{next_holds, prints_right}
 use Rattle.sitting.proofs.Turning.{turn_taken, turn_left}
 use Rattle.sitting.proofs.sitting.Sitting.command.Goals as goal
 
@@ -30,7 +30,7 @@ returns-in-Ok g c =
       nothing_touched = tt;
       refusals = λ n r. absurd (refused_not n _ (sym r ∙ t));
       guarantee = λ l h.
-          lines_right m met.opens met.flushes met.adds met.heavy g.K.FlowKey.spelled areas g.K.FlowKey.BYTES g.K.TapeKind.NUMBER g.C.TapeKind.NUMBER c.args.tape.now (length c.args.text.now) s l _ _ _ _ _ c.place.ensures found (c.take.ensures.answer l h) (c.take.ensures.text l h) h;
+          prints_right m met.opens met.flushes met.adds met.heavy g.K.FlowKey.spelled areas g.K.FlowKey.BYTES g.K.TapeKind.NUMBER g.C.TapeKind.NUMBER c.args.tape.now (length c.args.text.now) s l _ _ _ _ _ c.place.ensures found (c.take.ensures.answer l h) (c.take.ensures.text l h) h;
       holds = λ l h.
           next_holds m met.opens met.flushes met.adds met.heavy g.K.FlowKey.spelled areas g.K.FlowKey.BYTES g.K.TapeKind.NUMBER g.C.TapeKind.NUMBER c.args.tape.now (length c.args.text.now) s _ l (course l h) h;
       within = c.take.ensures.within;
@@ -56,7 +56,7 @@ returns-in-Err g c =
       nothing_touched = tt;
       refusals = λ n r. absurd (refused_not n _ (sym r ∙ t));
       guarantee = λ l h.
-          lines_right m met.opens met.flushes met.adds met.heavy g.K.FlowKey.spelled areas g.K.FlowKey.BYTES g.K.TapeKind.NUMBER g.C.TapeKind.NUMBER c.args.tape.now (length c.args.text.now) s l _ _ _ _ _ c.place.ensures found c.print_refusal.ensures.bytes c.print_refusal.ensures.text h;
+          prints_right m met.opens met.flushes met.adds met.heavy g.K.FlowKey.spelled areas g.K.FlowKey.BYTES g.K.TapeKind.NUMBER g.C.TapeKind.NUMBER c.args.tape.now (length c.args.text.now) s l _ _ _ _ _ c.place.ensures found c.print_refusal.ensures.bytes c.print_refusal.ensures.text h;
       holds = λ l h.
           next_holds m met.opens met.flushes met.adds met.heavy g.K.FlowKey.spelled areas g.K.FlowKey.BYTES g.K.TapeKind.NUMBER g.C.TapeKind.NUMBER c.args.tape.now (length c.args.text.now) s _ l left.course_is h;
       within = c.print_refusal.ensures.within;
