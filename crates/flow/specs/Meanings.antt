@@ -1,4 +1,7 @@
 -- What a frame counter means, and what every kind of counter shows. Assumes nothing.
+--   sum_of        the sum of a function over a list
+--   Distinct      no two elements of a list are equal
+--   Rises         an estimate stays, or rises to some r with n r within a limit
 --   Meaning       a kind of counter: its models, what a model tells, and what the calls do to it
 --   bound         V + t (s - 1)
 --   open_answer   what an open with n and s answers
@@ -8,13 +11,10 @@
 --   Fresh         places, step and greatest step as named, and all else 0
 --   Opens         every open that is not refused leaves a fresh model with its n and s
 --   Flushes       every flush leaves a fresh model with the same places and step
---   Rises         an estimate stays, or rises to some r with n r within a limit
 --   Grown         what an add does to packets, volume and estimates
 --   Adds          every add that is not refused does so
 --   Heavy         the law: estimates of different codes that are each so large that n of them pass the bound sum to at most the bound
 --   Steps         the greatest step is from 1 to the most that a kind may allow
---   sum_of        the sum of a function over a list
---   Distinct      no two elements of a list are equal
 use Rattle.std.specs.Prelude.{◌≡◌, ℕ, ◌+◌, ◌-◌, ◌*◌, ◌<◌, ◌≤◌, ◌⊎◌, List, [], ◌∷◌, ◌≢◌}
 use Rattle.std.specs.List.{AllByRecursion}
 use Rattle.flow.specs.declared.code.Code.{Code}
@@ -31,7 +31,6 @@ abbrev pub Distinct : {A : Type 0} → List A → Type 0
 Distinct [] = Unit {0}
 Distinct (x ∷ xs) = AllByRecursion (λ y. x ≢ y) xs × Distinct xs
 
--- an estimate stays, or rises to some number of which n are within the limit
 abbrev pub Rises : ℕ → ℕ → ℕ → ℕ → Type 0
 Rises n limit old new = (new ≡ old) ⊎ ((old ≤ new) × (n * new ≤ limit))
 

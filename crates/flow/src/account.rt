@@ -1,6 +1,7 @@
 // Account keys: ten ASCII digits.
-ghost use Rattle.std.specs.Prelude.{◌^◌, ◌<◌};
+ghost use Rattle.std.specs.Prelude.{◌≡◌, ◌^◌, ◌<◌, cond, nat_lt};
 ghost use Rattle.std.proofs.Common.{arith};
+ghost use Rattle.flow.specs.Answers.{answered, refused, told, answer_map};
 ghost use Rattle.flow.specs.Keys.{comes_back};
 ghost use Rattle.flow.specs.Spellings.{account_spelled};
 
@@ -16,6 +17,18 @@ const NUMBERS: u64 = 10_000_000_000;
 pub struct Account {
     number: u64,
     ghost short: { number < 10 ^ 10 },
+}
+
+impl Account {
+    // The account with this number, if there is one.
+    pub fn new(number: u64) -> Result<Account, Refusal>
+        ensures { answer_map (λ k. k.number) (told result) ≡ cond (nat_lt number (10 ^ 10)) (answered number) (refused 14) }
+    {
+        if number >= NUMBERS {
+            return Err(Refusal::NotAKey);
+        }
+        Ok(Account { number })
+    }
 }
 
 impl FlowKey for Account {
@@ -39,10 +52,10 @@ impl FlowKey for Account {
     }
 
     fn of_code(code: Code) -> Result<Self, Refusal> {
-        if code.high != 0 || code.low >= NUMBERS {
+        if code.high != 0 {
             return Err(Refusal::NotAKey);
         }
-        Ok(Account { number: code.low })
+        Account::new(code.low)
     }
 
     fn read(bytes: &[u8]) -> Result<Self, Refusal> {

@@ -32,7 +32,7 @@ fn ends_in_zeros(address: u32, len: u8) -> bool
 
 impl Prefix {
     // The prefix of this address and length, if it is one.
-    fn new(address: u32, len: u8) -> Result<Prefix, Refusal>
+    pub fn new(address: u32, len: u8) -> Result<Prefix, Refusal>
         ensures { MatchResult result (λ k. (k.address ≡ address) × (k.len ≡ len)) (λ e. (number e ≡ 14) × (len ≤ 32 → address % 2 ^ (32 - len) ≢ 0)) }
     {
         if len > MOST_LENGTH || !ends_in_zeros(address, len) {

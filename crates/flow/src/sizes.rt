@@ -1,5 +1,5 @@
 // What a counter is opened with.
-ghost use Rattle.std.specs.Prelude.{◌≡◌, ◌≤◌};
+ghost use Rattle.std.specs.Prelude.{◌≤◌};
 ghost use Rattle.flow.specs.Limits.{most_places};
 
 use crate::limits::MOST_PLACES;
