@@ -5,12 +5,13 @@
 --   most_packets    the packets that a counter takes between two flushes
 --   most_window     the packets of a window
 --   most_unit       the unit of a plan, which is the most that the packets of a block can weigh
+--   most_bound      the bound V + t (s - 1) of a counter
 --   most_marks      the marks of a meter: two frames with fewer marks each than there are places
 --   least_scratch   the bytes of scratch that a list asks for
 --   most_tape       the bytes of a tape
 --   least_text      the bytes of text area that a command asks for
 --   outside         a number lies below the one limit or above the other
-use Rattle.std.specs.Prelude.{ℕ, ◌*◌, Bool, ◌||◌, nat_lt}
+use Rattle.std.specs.Prelude.{ℕ, ◌+◌, ◌-◌, ◌*◌, Bool, ◌||◌, nat_lt}
 
 abbrev pub most_places : ℕ
 most_places = 256
@@ -29,6 +30,9 @@ most_window = 16777216
 
 abbrev pub most_unit : ℕ
 most_unit = most_weight * most_window
+
+abbrev pub most_bound : ℕ
+most_bound = most_packets * (most_weight + (most_step - 1))
 
 abbrev pub most_marks : ℕ
 most_marks = 510

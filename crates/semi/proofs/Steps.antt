@@ -1,6 +1,6 @@
 -- The steps of an add, by the place of the entry of the code.
 use Rattle.std.proofs.Common.{◌≡◌, ℕ, zero, suc, ◌+◌, ◌-◌, ◌<◌, ◌≤◌, true, false, List, [], ◌∷◌, ◌++◌, length, get_or, take, drop, set, sym, refl, subst, cond, eqb, ltb, ap, ◌∙◌, inl, inr, mul-le-mul_right, one-mul, add-one, arith}
-use Rattle.semi.specs.Adding.{code_start, rest_lawful, small-start}
+use Rattle.semi.specs.Adding.{code_start, rest_parts, small-start}
 use Rattle.semi.specs.Entries.{entry_of_absent, total-without}
 use Rattle.semi.specs.Estimates.{estimate_full, estimate_room}
 use Rattle.semi.specs.Line.{AtLeast, CodesDiffer, Lawful, Rising, Small, added, between, blank, entering, entry_of, first_group, holds, others, passes, placed, raised, replaced, rest, start, total, value, without}
@@ -133,7 +133,7 @@ small_at s [] i m l = grind arith
 small_at s (x ∷ xs) zero m l = m.0
 small_at s (x ∷ xs) (suc i) m l = small_at s xs i m.1 (omega arith)
 
-pub group_bound : (s b : ℕ) (xs : List Entry) (i : ℕ) → 0 < s → i < length xs → total s xs < b → (get_or xs i blank).group < b
+pub group_bound : (s b : ℕ) (xs : List Entry) (i : ℕ) → 0 < s → i < length xs → total s xs ≤ b → (get_or xs i blank).group ≤ b
 group_bound s b [] i p l h = grind arith
 group_bound s b (x ∷ xs) zero p l h = omega (arith, mul-le-mul_right x.group p, one-mul x.group)
 group_bound s b (x ∷ xs) (suc i) p l h = group_bound s b xs i p (omega arith) (omega arith)
@@ -144,7 +144,7 @@ value-start n s t v line k some step l =
       | inl h ↦ omega (arith, total-without s k line (entering n s line k) h, small-start n s line k step l.small)
       | inr h ↦ elim (cases_lt (length line) n) [
         | inl q ↦ omega (arith, estimate_room n s line k h q)
-        | inr q ↦ omega (arith, estimate_full n s line k h q, (rest_lawful s line (omega arith)).1)
+        | inr q ↦ omega (arith, estimate_full n s line k h q, (rest_parts s line (omega arith)).0)
       ]
     ]
 

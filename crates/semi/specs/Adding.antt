@@ -98,9 +98,10 @@ module _ (n s t v w : ℕ) (line : List Entry) (k : Code) (step : 0 < s) (l : La
       (small-raised s w k (start n s line k) step)
       (omega (arith, group_raised s w k (start n s line k), g, r, ap (λ (x : ℕ). s * x) g, mul_comm s 0, l.sum))
 
-pub rest_lawful : (s : ℕ) (line : List Entry) → 0 < length line → (rest line ≡ rest line) × (total s line ≡ (s * first_group line + (s - 1)) + total s (rest line)) × (length line ≡ length (rest line) + 1)
-rest_lawful s [] h = grind arith
-rest_lawful s (x ∷ xs) h = (refl, refl, omega arith)
+-- a line by its first entry and the rest
+pub rest_parts : (s : ℕ) (line : List Entry) → 0 < length line → (total s line ≡ (s * first_group line + (s - 1)) + total s (rest line)) × (length line ≡ length (rest line) + 1)
+rest_parts s [] h = grind arith
+rest_parts s (x ∷ xs) h = (refl, omega arith)
 
 module _ (n s t v w : ℕ) (line : List Entry) (k : Code) (some : 0 < n) (step : 0 < s) (l : Lawful n s t v line) where
   evicts : holds k line ≡ false → n ≤ length line → Lawful n s (t + 1) (v + w) (placed (raised s w k (start n s line k)) (rest line))
@@ -108,12 +109,12 @@ module _ (n s t v w : ℕ) (line : List Entry) (k : Code) (some : 0 < n) (step :
       let z : start n s line k ≡ record { code = k; group = first_group line; remainder = s - 1 } = grind (arith, entry_of_absent k line (entering n s line k) h) in
       let g = ap (λ (e : Entry). e.group) z in
       let r = ap (λ (e : Entry). e.remainder) z in
-      let p = rest_lawful s line (omega arith) in
-      lawful_placed n s t v w (raised s w k (start n s line k)) (rest line) (omega (arith, p.2, l.few))
+      let p = rest_parts s line (omega arith) in
+      lawful_placed n s t v w (raised s w k (start n s line k)) (rest line) (omega (arith, p.1, l.few))
       (rising_rest line l.rising) (distinct_rest line l.distinct) (small-rest s line l.small)
       (holds-rest k line h)
       (small-raised s w k (start n s line k) step)
-      (omega (arith, group_raised s w k (start n s line k), g, r, ap (λ (x : ℕ). s * x) g, p.1, l.sum))
+      (omega (arith, group_raised s w k (start n s line k), g, r, ap (λ (x : ℕ). s * x) g, p.0, l.sum))
 
   -- every add keeps the line lawful
   pub added_lawful : Lawful n s (t + 1) (v + w) (added n s line k w)

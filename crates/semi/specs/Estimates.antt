@@ -1,7 +1,7 @@
 -- What an add does to the estimates.
 use Rattle.std.specs.Prelude.{◌≡◌, ℕ, ◌+◌, ◌-◌, ◌*◌, ◌<◌, ◌≤◌, true, false, List, [], ◌∷◌, length}
 use Rattle.std.proofs.Common.{◌∙◌, ap, sym, inl, inr, arith, mul_comm, mul-le-mul_left}
-use Rattle.semi.specs.Adding.{added_lawful, by_step, rest_lawful, rises, total-least, value-raised}
+use Rattle.semi.specs.Adding.{added_lawful, by_step, rest_parts, rises, total-least, value-raised}
 use Rattle.semi.specs.Entries.{entry_of_absent, entry_of_held, entry_of-placed, entry_of-placed_other, entry_of-replaced, entry_of-replaced_other, entry_of-rest, entry_of-without, holds-placed_other, holds-replaced, holds-rest, holds-without, holds-without_other, length-placed, length-replaced, length_without}
 use Rattle.semi.specs.Groups.{at_least-entry_of, at_least-placed, at_least-replaced, at_least-rest, at_least-without, first-least, least_first}
 use Rattle.semi.specs.Line.{CodesDiffer, Lawful, Small, added, entering, entry_of, estimate, first_group, holds, placed, raised, replaced, rest, start, value, without}
@@ -96,7 +96,7 @@ module _ (n s t v w : ℕ) (line : List Entry) (j : Code) (some : 0 < n) (step :
         (at_least-placed (first_group line) e (rest line) g (at_least-rest (first_group line) line (first-least line l.rising))) in
         record {
           held = λ d f m. entry_of-placed_other j e (rest line) d apart ∙ entry_of-rest j line d f l.distinct (sym same-holds ∙ m);
-          room = λ m r. absurd (omega (arith, length-placed e (rest line), (rest_lawful s line (omega arith)).2));
+          room = λ m r. absurd (omega (arith, length-placed e (rest line), (rest_parts s line (omega arith)).1));
           full = λ m r. elim (cases_Bool (holds j line)) [
             | inl y ↦ omega (arith, only_first s j line (entering n s line j) l.small y (sym same-holds ∙ m), mul-le-mul_left s up)
             | inr y ↦ absent_full y _ up

@@ -1,5 +1,6 @@
 // An entry of a semi-ordered counter.
-ghost use Rattle.std.specs.Prelude.{◌≡◌, ◌^◌, ◌<◌};
+ghost use Rattle.std.specs.Prelude.{◌≡◌, ◌^◌, ◌<◌, ◌≤◌};
+ghost use Rattle.flow.specs.Limits.{most_weight, most_step, most_bound};
 ghost use Rattle.semi.specs.Line.{raised, value};
 
 use flow::code::Code;
@@ -15,9 +16,9 @@ pub struct Entry {
 impl Entry {
     // The entry with the weight of a packet more.
     pub(crate) fn raised(self, step: u32, weight: u32) -> Entry
-        requires steps { (0 < step) × (step < 2 ^ 22) }
-        requires sizes { (self.remainder < step) × (self.group < 2 ^ 48) }
-        requires light { weight < 2 ^ 21 }
+        requires steps { (0 < step) × (step ≤ most_step) }
+        requires sizes { (self.remainder < step) × (self.group ≤ most_bound) }
+        requires light { weight ≤ most_weight }
         ensures { result ≡ raised step weight self.code self }
     {
         let sum = self.remainder + weight;

@@ -1,9 +1,8 @@
 // The line of a semi-ordered counter, and the steps of an add to it.
-ghost use Rattle.std.specs.Prelude.{◌≡◌, ◌^◌, ◌<◌, ◌≤◌, true, false, if◌then◌else◌, ◌==◌, [], ◌∷◌, length, nat_le, nat_lt, MatchOption, slice_index_or};
+ghost use Rattle.std.specs.Prelude.{◌≡◌, ◌<◌, ◌≤◌, true, false, if◌then◌else◌, ◌==◌, [], ◌∷◌, length, nat_le, nat_lt, MatchOption, slice_index_or};
 ghost use Rattle.std.specs.List.{prefix_len};
 ghost use Rattle.semi.specs.Line.{holds, placed, between, AtLeast, Rising, added, passes, first_group, rest, total, entering, start, orderly, blank};
-ghost use Rattle.flow.specs.Codes.{same};
-ghost use Rattle.flow.specs.Limits.{most_places, most_step};
+ghost use Rattle.flow.specs.Limits.{most_places, most_step, most_weight, most_bound};
 
 use crate::entry::Entry;
 use arrayvec::ArrayVec;
@@ -116,8 +115,8 @@ impl Line {
     // Adds a packet: to the entry of the code, or to what the code counts from, once that stands at the front. Answers the passes.
     // Code and weight come as the counter's `add` has them.
     pub(crate) fn add(&mut self, code: Code, weight: u32) -> usize
-        requires light { weight < 2 ^ 21 }
-        requires fits { total self.old.sizes.step self.old.entries.items < 2 ^ 48 }
+        requires light { weight ≤ most_weight }
+        requires fits { total self.old.sizes.step self.old.entries.items ≤ most_bound }
         ensures sizes { self.new.sizes ≡ self.old.sizes }
         ensures entries { self.new.entries.items ≡ added self.old.sizes.places self.old.sizes.step self.old.entries.items code weight }
         ensures passes { result ≡ passes self.old.sizes.places self.old.sizes.step self.old.entries.items code weight }

@@ -20,8 +20,8 @@ pub sound : (c : SharedDeduction) → SharedSound (shared_meaning.model c)
 sound c = record { some = c.some; few = c.tally.few; long = refl; tidily = c.order; sum = c.sum }
 
 -- places that are all empty
-pub emptied : (n : ℕ) (ps : List Place) → ps ≡ replicate n None → (length ps ≡ n) × (tidy ps ≡ true) × (counted ps ≡ 0)
-emptied n ps e = (ap length e ∙ length-replicate n None, ap tidy e ∙ tidy_empty n, ap counted e ∙ counted_empty n)
+pub all_empty : (n : ℕ) (ps : List Place) → ps ≡ replicate n None → (length ps ≡ n) × (tidy ps ≡ true) × (counted ps ≡ 0)
+all_empty n ps e = (ap length e ∙ length-replicate n None, ap tidy e ∙ tidy_empty n, ap counted e ∙ counted_empty n)
 
 -- the places, as a step of the same length writes them back
 pub written : (before after : List Place) → length after ≡ length before → refill (length before) before after ≡ after

@@ -31,12 +31,6 @@ counted-entered k w [] h = grind arith
 counted-entered k w (None ∷ ps) h = omega arith
 counted-entered k w (Some x ∷ ps) h = grind (arith, counted-entered k w ps)
 
--- a place has the code exactly where its count is above 0
-pub held_counts : (k : Code) (ps : List Place) → tidy ps ≡ true → nat_lt 0 (count_of k ps) ≡ holds k ps
-held_counts k [] t = refl
-held_counts k (None ∷ ps) t = held_counts k ps t
-held_counts k (Some x ∷ ps) t = grind (arith, held_counts k ps)
-
 -- each count is at least m
 abbrev pub Above : ℕ → List Place → Type 0
 Above m [] = Unit {0}

@@ -134,4 +134,4 @@ shared_heavy x sound l codes over distinct each = heavy_sum x sound l over codes
 
 -- a new counter is sound
 pub new_sound : SharedSound (shared_opened 1)
-new_sound = record { some = omega arith; few = omega arith; long = refl; tidily = refl; sum = refl }
+new_sound = (opened_fresh 1 (omega arith)).is_sound

@@ -1,4 +1,5 @@
-use Rattle.std.proofs.Common.{◌∙◌, ◌^◌, refl}
+use Rattle.std.proofs.Common.{◌∙◌, refl}
+use Rattle.flow.specs.Limits.{most_bound}
 use Rattle.semi.proofs.Kept.{line_kept}
 use Rattle.semi.proofs.Orders.{orderly_from}
 use Rattle.semi.proofs.Steps.{entered, group_bound, grown, rising_drop, rising_seated, small_at}
@@ -12,7 +13,7 @@ raised-new-requires-clause-sizes c =
     let xs = m.entries.items in
     rw c.deref.ensures.0 (
       small_at m.sizes.step xs c.in-Some.at (orderly_from m.sizes.step xs m.order).2 c.in-Some.ensures.0,
-      group_bound m.sizes.step (2 ^ 48) xs c.in-Some.at m.sizes.step_in c.in-Some.ensures.0 c.requires.fits,
+      group_bound m.sizes.step most_bound xs c.in-Some.at m.sizes.step_in c.in-Some.ensures.0 c.requires.fits,
     )
 
 pub regroup-requires-clause-order : goal.regroup-requires-clause-order

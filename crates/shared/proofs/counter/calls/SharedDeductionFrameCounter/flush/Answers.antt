@@ -2,26 +2,26 @@ use Rattle.std.proofs.Common.{◌≡◌, List, None, length, replicate, ap, ◌�
 use Rattle.std.specs.List.{refill}
 use Rattle.std.proofs.lemmas.List.{length-replicate}
 use Rattle.shared.specs.Places.{Place}
-use Rattle.shared.proofs.Steps.{emptied, written}
+use Rattle.shared.proofs.Steps.{all_empty, written}
 use Rattle.shared.proofs.counter.calls.SharedDeductionFrameCounter.flush.Goals as goal
 
 -- the places that a fill of all of them leaves
-filled : (now before after : List Place) → now ≡ before → after ≡ replicate (length now) None → refill (length before) before after ≡ replicate (length before) None
-filled now before after was e =
+cleared : (now before after : List Place) → now ≡ before → after ≡ replicate (length now) None → refill (length before) before after ≡ replicate (length before) None
+cleared now before after was e =
     let all = e ∙ ap (λ (ps : List Place). replicate (length ps) None) was in
     written before after (ap length all ∙ length-replicate (length before) None) ∙ all
 
 pub invariant_of-self : goal.invariant_of-self
 invariant_of-self c =
     let x = c.args.self.now in
-    let e = emptied _ _ (filled _ x.places.items _ c.as_mut_slice.ensures.value (c.fill.ensures.after (λ _ e. search rules))) in
+    let e = all_empty _ _ (cleared _ x.places.items _ c.as_mut_slice.ensures.value (c.fill.ensures.after (λ _ e. search rules))) in
     record { some = omega (arith, e.0, x.some); most = omega (arith, e.0, x.most); order = e.1; sum = omega (arith, e.2) }
 
 pub returns : goal.returns
 returns c =
     let x = c.args.self.now in
-    let empty = filled _ x.places.items _ c.as_mut_slice.ensures.value (c.fill.ensures.after (λ _ e. search rules)) in
-    let e = emptied _ _ empty in
+    let empty = cleared _ x.places.items _ c.as_mut_slice.ensures.value (c.fill.ensures.after (λ _ e. search rules)) in
+    let e = all_empty _ _ empty in
     record {
       state = λ i. record { places = e.0 i; packets = c.new-self.ensures.packets i; volume = c.new-self.ensures.volume i; deduction = 0; held = empty i };
     }
