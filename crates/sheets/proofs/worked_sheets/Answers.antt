@@ -4,9 +4,59 @@ use Rattle.std.proofs.lemmas.Bool.Decides.{nat_tests}
 use Rattle.frame.specs.Plans.{block_of, unit_of}
 use Rattle.semi.specs.Estimates.{estimate_full}
 use Rattle.semi.proofs.Orders.{placed_last}
-use Rattle.sheets.specs.CounterSheets.{SemiSheet, SharedSheet, semi_first}
+use Rattle.sheets.specs.CounterSheets.{SemiSheet, SemiPlaces, SharedSheet, semi_first}
+use Rattle.sheets.specs.KeySheets.{PrefixSheet, AccountSheet}
 use Rattle.sheets.specs.MeterSheets.{MeterSheet}
+use Rattle.sheets.specs.RefusalSheets.{OpenSheet, AddSheet}
 use Rattle.sheets.proofs.worked_sheets.Goals as goal
+
+prefixes : PrefixSheet
+prefixes = record {
+  length_8 = refl;
+  length_9 = refl;
+  ninth_bit = refl;
+  length_32 = refl;
+  length_0 = refl;
+  last_bit_beyond = refl;
+  next_bit_beyond = refl;
+  length_33 = refl;
+  four_bytes = refl;
+  six_bytes = refl;
+}
+
+accounts : AccountSheet
+accounts = record {
+  account_42 = refl;
+  last_account = refl;
+  two_digits = refl;
+  eleven_digits = refl;
+  a_space = refl;
+  below_the_digits = refl;
+  above_the_digits = refl;
+}
+
+opens : OpenSheet
+opens = record {
+  semi_ordered_steps = refl;
+  shared_deduction_steps = refl;
+  least = refl;
+  most = refl;
+  no_places = refl;
+  places_257 = refl;
+  no_step = refl;
+  step_11 = refl;
+  places_come_first = refl;
+}
+
+adds : AddSheet
+adds = record {
+  least = refl;
+  most = refl;
+  no_weight = refl;
+  weight_1048577 = refl;
+  full = refl;
+  weight_comes_first = refl;
+}
 
 semi : SemiSheet
 semi = record {
@@ -22,12 +72,29 @@ semi = record {
   third_line = refl;
 }
 
+semi_places : SemiPlaces
+semi_places = record {
+  evicts_the_first = refl;
+  behind_its_equals = refl;
+  behind_in_front = refl;
+  stays = refl;
+  rounds_the_sum = refl;
+  counts_groups = refl;
+}
+
 shared : SharedSheet
 shared = record {
+  full_places = refl;
+  full_passes = refl;
+  first_passes = refl;
+  first_places = refl;
   first_deduction = refl;
   first_a = refl;
   first_b = refl;
   first_c = refl;
+  held_passes = refl;
+  second_passes = refl;
+  second_places = refl;
   second_deduction = refl;
   second_e_out = refl;
   second_a = refl;
@@ -60,7 +127,7 @@ meter = record {
 
 pub returns : goal.returns
 returns c = record {
-  sheets_stand = record { semi = semi; shared = shared; meter = meter };
+  sheets_stand = record { prefixes = prefixes; accounts = accounts; opens = opens; adds = adds; semi = semi; semi_places = semi_places; shared = shared; meter = meter };
   placed_behind_the_last = placed_last;
   semi_ordered_runs = c.semi_sheet.ensures;
   shared_deduction_runs = c.shared_sheet.ensures;
