@@ -7,12 +7,15 @@ use Rattle.flow.specs.Answers.{answered, refused}
 use Rattle.flow.specs.Limits.{most_weight, most_packets, outside}
 use Rattle.flow.specs.Meanings.{Meaning, add_answer}
 
+-- a refusal is no answer
 pub refused_not : {A : Type 0} (n : ℕ) (a : A) → refused n ≡ answered a → ⊥
 refused_not n a e = let z : ◌≡◌ {A = ℕ} 0 1 = cc in omega arith
 
+-- a number that is not outside two limits lies within them
 pub inside : (low high x : ℕ) → outside low high x ≡ false → (low ≤ x) × (x ≤ high)
 inside low high x h = (grind (arith, nat_tests), grind (arith, nat_tests))
 
+-- an add that is answered has a weight within its limits, and the counter was not full
 module _ {C : Type 0} (m : Meaning C) (x : m.Model) where
   pub adds_inside : (k : Code) (w p : ℕ) → add_answer m x k w ≡ answered p → ((1 ≤ w) × (w ≤ most_weight)) × (m.packets x ≡ most_packets → ⊥)
   adds_inside k w p e =

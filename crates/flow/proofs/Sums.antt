@@ -1,8 +1,8 @@
 -- The sum over different codes that a counter holds, for the proofs of the law of heavy flows.
---   Holding    what holds codes, each with a worth: a code can be taken out, with its worth, and the others stay
---   Shown      a function shows the worth of a held code
+--   Holding         what holds codes, each with a worth: a code can be taken out, with its worth, and the others stay
+--   Shown           a function shows the worth of a held code
 --   shown_without   once a code is taken out, the others are still shown
---   sum_held   the worths of different held codes sum to at most the whole
+--   sum_held        the worths of different held codes sum to at most the whole
 use Rattle.std.specs.Prelude.{◌≡◌, ℕ, ◌+◌, ◌≤◌, Bool, true, false, List, [], ◌∷◌, ◌≢◌}
 use Rattle.std.proofs.Common.{sym, ◌∙◌, arith}
 use Rattle.std.specs.List.{AllByRecursion}

@@ -44,7 +44,7 @@ pub trait FlowKey: Sized {
     // the key made of a key's code is that key
     ghost back: { (k : Self) (r : Result Self Refused) → MadeOf coded (coded k) r → r ≡ Ok k };
 
-    // only so many bytes spell a key: so whoever reads keys of the kind knows which lengths are refused
+    // only so many bytes spell a key: a promise to those who use the kind, on which nothing here rests
     ghost wide: { (bytes : List ℕ) (code : Coded) → spelled bytes ≡ Some code → length bytes ≡ BYTES };
 }
 

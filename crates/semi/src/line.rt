@@ -58,7 +58,7 @@ impl Line {
         self.entries.as_slice()
     }
 
-    // The place of the entry with this code. (`position` made an add an eighth slower; a tenth is the bar.)
+    // The place of the entry with this code. (`position` made an add an eighth slower.)
     fn find(&self, code: Code) -> Option<usize>
         ensures { MatchOption result (holds code self.now.entries.items ≡ false) (λ i. (i < length self.now.entries.items) × ((slice_index_or self.now.entries.items i blank).code ≡ code)) }
     {
