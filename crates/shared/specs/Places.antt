@@ -1,21 +1,21 @@
 -- The places of a shared-deduction counter, and what an add does to them. Assumes nothing.
---   Place       nothing, or a code with its count
---   filled      the place of a code with its count
---   held_in     the codes that have a place, with their counts, in the order of the places
---   has         a place has the code
---   holds       some place has the code
---   count_of    the code's count, 0 where no place has it
---   any_empty   some place is empty
---   raised      the places with the code's count raised
---   entered     the places with the code in the lowest empty one
---   least       the smallest of a weight and the counts
---   less        one place with its count lowered, empty where nothing is left
---   lowered     the places with every count lowered
---   deducted    how much an add raises the deduction
---   shared_out  the places after they share a weight
---   added       the places after an add
---   counted     the sum of the counts
---   tidy        the test that each count is at least 1 and no code has two places
+--   Place        nothing, or a code with its count
+--   filled       the place of a code with its count
+--   held_in      the codes that have a place, with their counts, in the order of the places
+--   has          a place has the code
+--   holds        some place has the code
+--   count_of     the code's count, 0 where no place has it
+--   any_empty    some place is empty
+--   raised       the places with the code's count raised
+--   entered      the places with the code in the lowest empty one
+--   least        the smallest of a weight and the counts
+--   less         one place with its count lowered, empty where nothing is left
+--   lowered      the places with every count lowered
+--   deducted     how much an add raises the deduction
+--   shared_out   the places after they share a weight
+--   added        the places after an add
+--   counted      the sum of the counts
+--   tidy         the test that each count is at least 1 and no code has two places
 use Rattle.std.specs.Prelude.{ℕ, ◌+◌, ◌-◌, min, Bool, true, false, cond, not, ◌&&◌, ◌||◌, List, [], ◌∷◌, map, Option, Some, None, is_none, ◌==◌, nat_lt}
 use Rattle.std.specs.List.{flat_map, fold, list_any}
 use Rattle.std.specs.Option.{option_to_list}
