@@ -1,5 +1,5 @@
 -- The guarantee, read.
-use Rattle.std.proofs.Common.{◌≡◌, ℕ, ◌+◌, ◌*◌, Bool, true, false, cond, eqb, ltb, List, [], ◌∷◌, Some, None, Option, refl, sym, ap, ◌∙◌, subst, take, mul_comm, mul_assoc, arith}
+use Rattle.std.proofs.Common.{◌≡◌, ℕ, ◌+◌, ◌*◌, Bool, true, false, cond, eqb, ltb, List, [], ◌∷◌, Some, None, Option, Ok, Err, refl, sym, ap, ◌∙◌, subst, take, mul_comm, mul_assoc, arith}
 use Rattle.std.specs.List.{filter, sum_by}
 use Rattle.std.proofs.lemmas.List.Sums.{sum_by-cons}
 use Rattle.flow.specs.Answers.{Answer, answered, refused, after}
@@ -14,9 +14,10 @@ use Rattle.meter.specs.declared.day.Areas.{Areas}
 use Rattle.meter.specs.declared.record.Record.{Record}
 use Rattle.meter.specs.declared.day.Call.{Call}
 use Rattle.meter.specs.declared.day.Call.TheVariants as call
+use Rattle.meter.specs.declared.day.Reply.TheVariants as reply
 use Rattle.meter.specs.Ledgers.{Ledger, plan_verdict, packet_verdict, restart_verdict}
 use Rattle.meter.specs.Days.{Said, plan_said, packet_said, estimate_said, list_said, restart_said, step}
-use Rattle.sheets.specs.Readings.{plan_then, roll_then, AnswersTell, Sums, Shares}
+use Rattle.sheets.specs.Readings.{plan_then, roll_then, AnswersTell, SaidTells, Sums, Shares}
 
 abbrev Told : Ledger → Call Code → Said → Ledger → Type 0
 Told l c a y = (y.plan ≡ plan_then l.plan c a) × (y.roll ≡ roll_then l.roll c a)
@@ -56,6 +57,14 @@ answers_tell l (call.Packet k w) a h = subst (λ (y : Said). Told l (call.Packet
 answers_tell l (call.Estimate k) a h = subst (λ (y : Said). Told l (call.Estimate k) y l) (sym h.2) (asked l k h.0)
 answers_tell l (call.List level areas) a h = subst (λ (y : Said). Told l (call.List level areas) y l) (sym h.2) (listed l level areas h.0)
 answers_tell l call.Restart a h = subst (λ (y : Said). Told l call.Restart y (step (λ (j : Code). j) l call.Restart)) (sym h) (restarted l (restart_verdict l.plan))
+
+pub said_tells : SaidTells
+said_tells (Ok reply.Planned) = refl
+said_tells (Ok (reply.Took x)) = refl
+said_tells (Ok (reply.Estimated e)) = refl
+said_tells (Ok (reply.Listed v)) = (v, refl, refl)
+said_tells (Ok reply.Restarted) = refl
+said_tells (Err e) = (e, refl, refl)
 
 sums : (k : Code) (xs : List Packet) → volume_in k xs ≡ sum_by (λ (x : Packet). x.weight) (filter (λ (x : Packet). same x.code k) xs)
 sums k [] = refl

@@ -7,7 +7,7 @@ use Rattle.semi.proofs.Orders.{placed_last}
 use Rattle.sheets.specs.CounterSheets.{SemiSheet, SharedSheet, semi_first}
 use Rattle.sheets.specs.MeterSheets.{MeterSheet, FramesSheet}
 use Rattle.sheets.proofs.Daily.{day_sheet}
-use Rattle.sheets.proofs.Reading.{answers_tell, sums_weights, shares}
+use Rattle.sheets.proofs.Reading.{answers_tell, said_tells, sums_weights, shares}
 use Rattle.sheets.proofs.worked_sheets.Goals as goal
 
 semi : SemiSheet
@@ -73,6 +73,7 @@ returns c = record {
   sheets_stand = record { semi = semi; shared = shared; meter = meter; frames = frames; day = day_sheet };
   placed_behind_the_last = placed_last;
   answers_tell_the_ledger = answers_tell;
+  what_is_said_tells_the_answer = said_tells;
   volumes_sum_weights = sums_weights;
   blocks_share_the_window = shares;
   semi_ordered_runs = c.semi_sheet.ensures;
