@@ -1,6 +1,6 @@
 // A plan that was accepted.
-ghost use Rattle.std.specs.Prelude.{◌≡◌, ◌^◌, ◌<◌, ◌≤◌};
-ghost use Rattle.flow.specs.Limits.{most_weight};
+ghost use Rattle.std.specs.Prelude.{◌≡◌, ◌≤◌};
+ghost use Rattle.flow.specs.Limits.{most_weight, most_unit};
 ghost use Rattle.frame.specs.Plans.{block_of, unit_of};
 
 use crate::plan::Plan;
@@ -17,7 +17,7 @@ pub struct Layout {
     ghost unit_is: { unit ≡ unit_of plan },
     ghost some: { 1 ≤ block },
     ghost counts: { 1 ≤ unit },
-    ghost small: { unit ≤ 2 ^ 44 },
+    ghost small: { unit ≤ most_unit },
     ghost wide: { 1 ≤ plan.window },
     ghost light: { plan.most ≤ most_weight },
 }

@@ -1,5 +1,6 @@
 // The settings of a sitting.
-ghost use Rattle.std.specs.Prelude.{◌≡◌, ◌*◌, ◌^◌, ◌≤◌};
+ghost use Rattle.std.specs.Prelude.{◌≡◌, ◌*◌, ◌≤◌};
+ghost use Rattle.flow.specs.Limits.{most_unit};
 ghost use Rattle.sitting.specs.Courses.{levelled};
 
 // What stands until another command changes it: the level of lists.
@@ -11,7 +12,7 @@ pub struct Settings {
 impl Settings {
     // The settings under a new plan with this unit.
     pub(crate) fn of(unit: u64) -> Settings
-        requires { unit ≤ 2 ^ 44 }
+        requires { unit ≤ most_unit }
         ensures { result ≡ levelled (4 * unit) }
     {
         Settings { level: 4 * unit }

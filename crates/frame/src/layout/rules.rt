@@ -1,6 +1,7 @@
 // What an accepted plan decides: which plans are accepted, where blocks lie, which packets are marked.
-ghost use Rattle.std.specs.Prelude.{◌≡◌, ◌/◌, ◌^◌, ◌≤◌};
+ghost use Rattle.std.specs.Prelude.{◌≡◌, ◌/◌, ◌≤◌};
 ghost use Rattle.flow.specs.Answers.{told};
+ghost use Rattle.flow.specs.Limits.{most_unit};
 ghost use Rattle.frame.specs.Plans.{judged, block_of, unit_of, next_offset, level_judged};
 ghost use Rattle.frame.specs.Marking.{due};
 ghost use Rattle.frame.specs.Layouts.{Laid};
@@ -59,7 +60,7 @@ impl Layout {
     // The unit of marks: the most that the packets of a block can weigh.
     pub fn unit(&self) -> u64
         ensures value { result ≡ unit_of self.now.plan }
-        ensures size { (1 ≤ result) × (result ≤ 2 ^ 44) }
+        ensures size { (1 ≤ result) × (result ≤ most_unit) }
     {
         self.unit
     }

@@ -1,7 +1,8 @@
 // The calls of a meter, but for lists.
-ghost use Rattle.std.specs.Prelude.{◌≡◌, ℕ, ◌-◌, ◌*◌, ◌^◌, ◌≤◌, ◌++◌, length, is_some, IfOk, MatchOption};
+ghost use Rattle.std.specs.Prelude.{◌≡◌, ℕ, ◌-◌, ◌*◌, ◌≤◌, ◌++◌, length, is_some, IfOk, MatchOption};
 ghost use Rattle.std.specs.Option.{option_map};
 ghost use Rattle.flow.specs.Answers.{told, refused, Unchanged};
+ghost use Rattle.flow.specs.Limits.{most_unit};
 ghost use Rattle.frame.specs.Plans.{unit_of};
 ghost use Rattle.meter.specs.Ledgers.{Ledger, packet_verdict, fresh, planned, noted, restarted};
 ghost use Rattle.meter.specs.Guarantees.{places_of, EstimateRight};
@@ -45,7 +46,7 @@ impl<C: FrameCounter> Meter<C> {
     // The unit of the plan: an estimate is above the true volume by less than four units.
     pub fn unit(&self) -> Option<u64>
         ensures value { result ≡ option_map unit_of (state_of C.meaning self.now).plan }
-        ensures small { MatchOption result (Unit {0}) (λ t. t ≤ 2 ^ 44) }
+        ensures small { MatchOption result (Unit {0}) (λ t. t ≤ most_unit) }
     {
         self.window.as_ref().map(|window| window.layout.unit())
     }
