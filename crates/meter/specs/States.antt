@@ -22,7 +22,7 @@
 --   list_answer       what a list is answered
 --   restart_answer    what a restart is answered
 --   restart_leaves    the state after a restart
-use Rattle.std.specs.Prelude.{ℕ, ◌*◌, cond, List, [], ◌∷◌, ◌++◌, length, drop, replicate, Some, None, Option, ◌==◌, nat_le, nat_lt}
+use Rattle.std.specs.Prelude.{ℕ, cond, List, [], ◌∷◌, ◌++◌, length, drop, replicate, Some, None, Option, ◌==◌, nat_le, nat_lt}
 use Rattle.flow.specs.Answers.{Answer, answered, refused, after}
 use Rattle.flow.specs.Limits.{least_scratch}
 use Rattle.flow.specs.Meanings.{Meaning}
