@@ -3,14 +3,12 @@ use Rattle.std.proofs.Common.{◌≡◌, ℕ, zero, suc, ◌+◌, ◌-◌, ◌*�
 use native.Mathlib.Nat.{div-add-mod}
 use Rattle.std.specs.List.{AllByRecursion}
 use Rattle.flow.specs.declared.code.Code.{Code}
-use Rattle.frame.specs.Rolls.{Packet}
-use Rattle.frame.specs.Rolls.{volume_in}
+use Rattle.frame.specs.Rolls.{Packet, volume_in, true_volume}
 use Rattle.frame.specs.declared.marks.Mark.{Mark}
 use Rattle.frame.specs.declared.plan.Plan.{Plan}
 use Rattle.frame.specs.Plans.{unit_of, block_of}
-use Rattle.frame.specs.Rolls.{true_volume}
 use Rattle.frame.specs.Marking.{marks_of, flow_estimate}
-use Rattle.frame.specs.Windows.{Since, Stretch, Window}
+use Rattle.frame.specs.Windows.{Since, Stretch, Consistent}
 use Rattle.frame.proofs.Counting.{from_all, from_append}
 use Rattle.frame.proofs.Stretches.{since_at}
 use Rattle.frame.proofs.Sized.{unit_is, unit_some}
@@ -20,7 +18,7 @@ light_behind : (most : ℕ) (xs ys : List Packet) → AllByRecursion (λ x. x.we
 light_behind most [] ys h = h
 light_behind most (x ∷ xs) ys h = light_behind most xs ys h.1
 
-module _ {z : Plan} {present behind : List Packet} {older newer : List Mark} {e : Code → ℕ} (win : Window z present behind older newer e) (k : Code) where
+module _ {z : Plan} {present behind : List Packet} {older newer : List Mark} {e : Code → ℕ} (win : Consistent z present behind older newer e) (k : Code) where
   abbrev t : ℕ
   t = unit_of z
 

@@ -3,18 +3,17 @@ use Rattle.std.proofs.Common.{◌≡◌, ℕ, suc, ◌+◌, ◌-◌, ◌/◌, �
 use native.Mathlib.Nat.{div-eq_of_lt}
 use Rattle.std.proofs.lemmas.Bool.{cases_Bool, cases_lt, le-leb, both_ways}
 use Rattle.flow.specs.declared.code.Code.{Code}
-use Rattle.frame.specs.Rolls.{Packet}
 use Rattle.flow.specs.Codes.{same}
-use Rattle.frame.specs.Rolls.{part, volume_in}
+use Rattle.frame.specs.Rolls.{Packet, part, volume_in}
 use Rattle.frame.specs.declared.marks.Mark.{Mark}
 use Rattle.frame.specs.declared.plan.Plan.{Plan}
 use Rattle.frame.specs.Plans.{unit_of, block_of}
 use Rattle.frame.specs.Marking.{marks_from, marks_of, leave, dropped, marked}
-use Rattle.frame.specs.Windows.{Rising, Since, Stretch, Window, Moves}
+use Rattle.frame.specs.Windows.{Rising, Since, Stretch, Consistent, Moves}
 use Rattle.flow.proofs.Codes.{same_true, same_from}
 use Rattle.frame.proofs.Counting.{from_le, from_past, from_push, rises_up, rises_push}
 use Rattle.frame.proofs.Quotients.{quotient_step, below_unit}
-use Rattle.frame.proofs.Sized.{most_unit, unit_some}
+use Rattle.frame.proofs.Sized.{most_within, unit_some}
 use Rattle.frame.proofs.Stretches.{since_at, since_new, since_own, since_rise}
 use Rattle.frame.proofs.Leaving.{left, leave_worded}
 
@@ -54,7 +53,7 @@ from_own t q w a m ms le =
 from_other : (t q w a : ℕ) (j : Code) (m : Mark) (ms : List Mark) → same m.code j ≡ false → marks_from a j (marked t q w m ms) ≡ marks_from a j ms
 from_other t q w a j m ms s = let h = from_marked t q w a j m ms in grind arith
 
-module _ {z : Plan} {present behind : List Packet} {older newer : List Mark} {n top : ℕ} {k : Code} {w : ℕ} {e d : Code → ℕ} (win : Window z present behind older newer e) (moves : Moves n top (unit_of z) k w e d) (light : w ≤ z.most) where
+module _ {z : Plan} {present behind : List Packet} {older newer : List Mark} {n top : ℕ} {k : Code} {w : ℕ} {e d : Code → ℕ} (win : Consistent z present behind older newer e) (moves : Moves n top (unit_of z) k w e d) (light : w ≤ z.most) where
   abbrev i : ℕ
   i = length present
 
@@ -71,7 +70,7 @@ module _ {z : Plan} {present behind : List Packet} {older newer : List Mark} {n 
   some = unit_some z win.fair
 
   small : w ≤ unit_of z
-  small = omega (arith, most_unit z win.fair)
+  small = omega (arith, most_within z win.fair)
 
   rising : Rising 0 (suc i) marks
   rising = rises_marked (unit_of z) (e k) w mark newer win.newer_rise
@@ -118,7 +117,7 @@ module _ {z : Plan} {present behind : List Packet} {older newer : List Mark} {n 
       (moves.other j (λ h. both_ways (same k j) s (same_from k j (sym h)))))
       (cases_Bool (same k j))
 
-  packet_left_block : length present < z.window → Window z (packet ∷ present) behind (leave (block_of z) i older) marks d
+  packet_left_block : length present < z.window → Consistent z (packet ∷ present) behind (leave (block_of z) i older) marks d
   packet_left_block room =
       let l = left (block_of z) z.window i win.p older win.fair.some win.past win.near win.older_rise in
       record {
@@ -136,6 +135,6 @@ module _ {z : Plan} {present behind : List Packet} {older newer : List Mark} {n 
         before = λ j a le. subst (λ (m : ℕ). Stretch (unit_of z) (volume_in j (take (z.window - a) behind)) m) (sym (l.kept j a le)) (win.before j a (omega (arith, l.on)));
       }
 
-  pub packet_keeps : length present < z.window → Window z (packet ∷ present) behind (dropped (block_of z) i older) marks d
+  pub packet_keeps : length present < z.window → Consistent z (packet ∷ present) behind (dropped (block_of z) i older) marks d
   packet_keeps room =
-      subst (λ (ms : List Mark). Window z (packet ∷ present) behind ms marks d) (leave_worded (block_of z) z.window i win.p older win.fair.some win.past win.older_rise) (packet_left_block room)
+      subst (λ (ms : List Mark). Consistent z (packet ∷ present) behind ms marks d) (leave_worded (block_of z) z.window i win.p older win.fair.some win.past win.older_rise) (packet_left_block room)

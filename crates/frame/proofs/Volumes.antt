@@ -3,9 +3,7 @@ use Rattle.std.proofs.Common.{◌≡◌, ℕ, zero, suc, ◌+◌, ◌-◌, ◌*�
 use lib.Seq.{take-append-add}
 use Rattle.std.specs.List.{AllByRecursion}
 use Rattle.flow.specs.declared.code.Code.{Code}
-use Rattle.frame.specs.Rolls.{Packet}
-use Rattle.frame.specs.Rolls.{part, volume_in}
-use Rattle.frame.specs.Rolls.{true_volume}
+use Rattle.frame.specs.Rolls.{Packet, part, volume_in, true_volume}
 
 pub volume_append : (k : Code) (xs ys : List Packet) → volume_in k (xs ++ ys) ≡ volume_in k xs + volume_in k ys
 volume_append k [] ys = omega arith

@@ -1,6 +1,8 @@
 -- Plans and their refusals. Assumes nothing.
 --   block_of      b = W / k, the packets of a block
 --   unit_of       T = M b, the unit of marks
+--   least_level   3 T, the least level of a list: a flow of so much is sure to have a mark
+--   error_of      4 T: an estimate is above the true volume by less
 --   wrapped       the offset of the next packet, with n packets in the present frame: 0 where it is full
 --   next_offset   the offset after i: 0 behind the last of a frame
 --   judged        what is wrong with the numbers of a plan, in the order of the checks; g is the counter's greatest step
@@ -16,6 +18,12 @@ block_of p = p.window / p.blocks
 
 unfoldable pub unit_of : Plan → ℕ
 unit_of p = p.most * block_of p
+
+abbrev pub least_level : Plan → ℕ
+least_level p = 3 * unit_of p
+
+abbrev pub error_of : Plan → ℕ
+error_of p = 4 * unit_of p
 
 abbrev pub wrapped : Plan → ℕ → ℕ
 wrapped p n = cond (nat_lt n p.window) n 0
@@ -34,7 +42,7 @@ judged g p =
     (answered tt))))))
 
 abbrev pub level_judged : Plan → ℕ → Answer (Unit {0})
-level_judged p level = cond (nat_lt level (3 * unit_of p)) (refused 11) (answered tt)
+level_judged p level = cond (nat_lt level (least_level p)) (refused 11) (answered tt)
 
 pub record Fair (p : Plan) : Type 0 where
   pub stands : 1 ≤ p.places

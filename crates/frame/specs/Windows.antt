@@ -1,10 +1,10 @@
 -- What lasts from packet to packet: why marks and estimates tell the volumes of the window. Assumes nothing.
 -- A frame is W packets from offset 0 on; marks carry the offset of their packet; rolls stand newest first.
---   Rising    offsets rise strictly from one number on and stay below another
---   Stretch   a stretch of a full frame, up to its end: its volume and its marks
---   Since     a stretch of the present frame, up to now: its volume and its marks, and the estimate now
---   Window    the packets of the present frame and those behind it, the marks of both frames, and the counter's estimates fit together
---   Moves     what one add does to estimates, within the budget of a frame
+--   Rising       offsets rise strictly from one number on and stay below another
+--   Stretch      a stretch of a full frame, up to its end: its volume and its marks
+--   Since        a stretch of the present frame, up to now: its volume and its marks, and the estimate now
+--   Consistent   the packets of the present frame and those behind it, the marks of both frames, and the counter's estimates fit together
+--   Moves        what one add does to estimates, within the budget of a frame
 use Rattle.std.specs.Prelude.{◌≡◌, ℕ, ◌+◌, ◌-◌, ◌*◌, ◌/◌, ◌<◌, ◌≤◌, ◌⊎◌, List, [], ◌∷◌, ◌++◌, length, take, ◌≢◌}
 use Rattle.std.specs.List.{AllByRecursion}
 use Rattle.flow.specs.declared.code.Code.{Code}
@@ -30,7 +30,7 @@ pub record Since (t q v m : ℕ) : Type 0 where
   pub high : q + t * m < v + t * (q / t) + t
 
 -- What lasts, of the packets of the present frame, those behind it, the marks of the previous and the present frame, and the counter's estimates.
-pub record Window (z : Plan) (present behind : List Packet) (older newer : List Mark) (est : Code → ℕ) : Type 0 where
+pub record Consistent (z : Plan) (present behind : List Packet) (older newer : List Mark) (est : Code → ℕ) : Type 0 where
   -- the older marks left are those that the previous frame made at p or later
   pub p : ℕ
   pub fair : Fair z

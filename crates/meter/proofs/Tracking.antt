@@ -12,7 +12,7 @@ use Rattle.frame.specs.declared.marks.Mark.{Mark}
 use Rattle.frame.specs.Plans.{Fair, block_of, unit_of, wrapped}
 use Rattle.frame.specs.Rolls.{Packet, total}
 use Rattle.frame.specs.Marking.{marks_of, dropped, marked}
-use Rattle.frame.specs.Windows.{Window, Moves}
+use Rattle.frame.specs.Windows.{Consistent, Moves}
 use Rattle.frame.proofs.Budgets.{total_le, budget}
 use Rattle.frame.proofs.Fewness.{fewer}
 use Rattle.frame.proofs.Frames.{first_frame, older_gone, next_frame, same_frame}
@@ -42,11 +42,11 @@ module _ {C : Type 0} (m : Meaning C) (p : Plan) where
     step_is = fresh.step_is;
     packets_is = fresh.packets_is;
     volume_is = fresh.volume_is;
-    window = subst (λ (a : List Mark × List Mark). Window p [] [] a.0 a.1 (m.estimate s.counter)) (λ i. (sym o i, sym n i)) (first_frame fair fair.stands fresh.estimates_are);
+    window = subst (λ (a : List Mark × List Mark). Consistent p [] [] a.0 a.1 (m.estimate s.counter)) (λ i. (sym o i, sym n i)) (first_frame fair fair.stands fresh.estimates_are);
   }
 
   module _ (s : State m.Model) (roll : List Packet) (n : ℕ) (t : Tracks m p n s roll) where
-    abbrev win : Window p t.present t.behind s.older s.newer (m.estimate s.counter)
+    abbrev win : Consistent p t.present t.behind s.older s.newer (m.estimate s.counter)
     win = t.window
 
     pub tracks_fair : Fair p
@@ -75,7 +75,7 @@ module _ {C : Type 0} (m : Meaning C) (p : Plan) where
           window = ⊎_elim
               (λ none. same_frame t.present win (sym t.filled_is ∙ none) fresh.estimates_are)
               (λ all. let full = sym t.filled_is ∙ all in
-              subst (λ (ms : List Mark). Window p [] (t.present ++ t.behind) ms [] (m.estimate (m.flushed s.counter))) (sym (ap (λ (ms : List Mark). ms ++ s.newer) (older_gone win full))) (next_frame win full (newer_few heavy) fresh.estimates_are))
+              subst (λ (ms : List Mark). Consistent p [] (t.present ++ t.behind) ms [] (m.estimate (m.flushed s.counter))) (sym (ap (λ (ms : List Mark). ms ++ s.newer) (older_gone win full))) (next_frame win full (newer_few heavy) fresh.estimates_are))
               ends;
         }
 
@@ -144,5 +144,5 @@ module _ {C : Type 0} (m : Meaning C) (p : Plan) where
         step_is = grown.step_is ∙ t.step_is;
         packets_is = packets;
         volume_is = volume;
-        window = subst (λ (i : ℕ). Window p (packet ∷ t.present) t.behind (dropped (block_of p) i s.older) (marked (unit_of p) (m.estimate s.counter k) w (record { code = k; offset = i }) s.newer) (m.estimate (m.added s.counter k w))) (sym t.filled_is) (packet_keeps t.window moves light fits);
+        window = subst (λ (i : ℕ). Consistent p (packet ∷ t.present) t.behind (dropped (block_of p) i s.older) (marked (unit_of p) (m.estimate s.counter k) w (record { code = k; offset = i }) s.newer) (m.estimate (m.added s.counter k w))) (sym t.filled_is) (packet_keeps t.window moves light fits);
       }

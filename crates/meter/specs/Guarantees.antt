@@ -6,27 +6,27 @@
 --   ListsUnder      a list keeps the guarantee under the plan
 --   EstimateRight   the answers that an estimate may have under a ledger
 --   ListRight       the answers that a list with areas of some lengths may have under a ledger
-use Rattle.std.specs.Prelude.{◌≡◌, ℕ, ◌+◌, ◌*◌, ◌<◌, ◌≤◌, cond, List, length, map, Some, None, MatchBool, Option, nat_lt}
+use Rattle.std.specs.Prelude.{◌≡◌, ℕ, ◌+◌, ◌<◌, ◌≤◌, cond, List, length, map, Some, None, MatchBool, Option, nat_lt}
 use Rattle.std.specs.List.{AllByRecursion}
 use Rattle.flow.specs.Answers.{Answer, answered, refused}
 use Rattle.flow.specs.Limits.{least_scratch}
 use Rattle.flow.specs.declared.code.Code.{Code}
 use Rattle.frame.specs.declared.plan.Plan.{Plan}
 use Rattle.frame.specs.Marking.{times}
-use Rattle.frame.specs.Plans.{unit_of}
+use Rattle.frame.specs.Plans.{least_level, error_of}
 use Rattle.frame.specs.Rolls.{Packet, true_volume}
 use Rattle.meter.specs.declared.day.Areas.{Areas}
 use Rattle.meter.specs.declared.record.Record.{Record}
 
 abbrev pub Within : Plan → List Packet → Code → ℕ → Type 0
-Within p roll k e = (true_volume p.window k roll ≤ e) × (e < true_volume p.window k roll + 4 * unit_of p)
+Within p roll k e = (true_volume p.window k roll ≤ e) × (e < true_volume p.window k roll + error_of p)
 
 abbrev pub records_of : Code → List Record → ℕ
 records_of k rs = times k (map (λ (r : Record). r.code) rs)
 
 pub record Lists (p : Plan) (roll : List Packet) (level : ℕ) (rs : List Record) : Type 0 where
   pub heavy : (k : Code) → level ≤ true_volume p.window k roll → records_of k rs ≡ 1
-  pub light : (k : Code) → true_volume p.window k roll + 4 * unit_of p ≤ level → records_of k rs ≡ 0
+  pub light : (k : Code) → true_volume p.window k roll + error_of p ≤ level → records_of k rs ≡ 0
   pub once : (k : Code) → records_of k rs ≤ 1
   pub within : AllByRecursion (λ r. Within p roll r.code r.estimate) rs
 
@@ -47,6 +47,6 @@ EstimateRight (Some p) roll k a = (e : ℕ) × (a ≡ answered e) × Within p ro
 abbrev pub ListRight : Option Plan → List Packet → ℕ → Areas → Answer (List Record) → Type 0
 ListRight None roll level areas a = a ≡ refused 17
 ListRight (Some p) roll level areas a =
-    MatchBool (nat_lt level (3 * unit_of p)) (a ≡ refused 11)
+    MatchBool (nat_lt level (least_level p)) (a ≡ refused 11)
     (MatchBool (nat_lt areas.scratch least_scratch) (a ≡ refused 12)
     ((rs : List Record) × Lists p roll level rs × (a ≡ cond (nat_lt areas.table (length rs)) (refused 13) (answered rs))))

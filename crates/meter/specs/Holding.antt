@@ -11,7 +11,7 @@ use Rattle.flow.specs.declared.code.Code.{Code}
 use Rattle.frame.specs.declared.plan.Plan.{Plan}
 use Rattle.frame.specs.Plans.{wrapped}
 use Rattle.frame.specs.Rolls.{Packet, total}
-use Rattle.frame.specs.Windows.{Window}
+use Rattle.frame.specs.Windows.{Consistent}
 use Rattle.meter.specs.Ledgers.{Ledger}
 use Rattle.meter.specs.States.{State, counted}
 
@@ -32,7 +32,7 @@ module _ {C : Type 0} (m : Meaning C) where
     pub step_is : m.step s.counter ≡ p.step
     pub packets_is : m.packets s.counter ≡ length present
     pub volume_is : m.volume s.counter ≡ total present
-    pub window : Window p present behind s.older s.newer (m.estimate s.counter)
+    pub window : Consistent p present behind s.older s.newer (m.estimate s.counter)
 
   abbrev pub Kept : Option Plan → State m.Model → Ledger → Type 0
   Kept None s l = (m.greatest s.counter ≡ l.greatest) × (s.older ≡ []) × (s.newer ≡ [])

@@ -1,6 +1,10 @@
 -- The calls of a meter, by the rules. Assumes nothing.
 --   State             the accepted plan, the counter's model, the offset of the next packet in its frame, the marks of the previous frame and those of the present one
 --   unplanned         a new meter
+--   count_of          how many records a list has
+--   table_leaves      the table after a list: its records in front, and the rest as it was
+--   scratch_leaves    the scratch after a list: all zero
+--   listing           of some flows, the records of those with an estimate of at least a level
 --   plan_answer       what a plan is answered
 --   plan_leaves       the state after a plan: an accepted one opens the counter
 --   flushed_frame     the counter is flushed, and the marks made so far are those of the previous frame
@@ -13,23 +17,19 @@
 --   estimate_in       the estimate of a flow: T (m + 2) + q mod T
 --   estimate_for      what an estimate is answered, by the plan
 --   estimate_answer   what an estimate is answered
---   listing           of some flows, the records of those with an estimate of at least a level
 --   list_in           the list at a level: flows with a mark, in the order of their oldest marks
 --   list_for          what a list is answered, by the plan, for lengths of scratch and table
 --   list_answer       what a list is answered
---   count_of          how many records a list has
---   table_leaves      the table after a list: its records in front, and the rest as it was
---   scratch_leaves    the scratch after a list: all zero
 --   restart_answer    what a restart is answered
 --   restart_leaves    the state after a restart
-use Rattle.std.specs.Prelude.{ℕ, ◌*◌, cond, List, [], ◌∷◌, ◌++◌, length, drop, replicate, Some, None, Option, ◌==◌, nat_le, nat_lt}
+use Rattle.std.specs.Prelude.{ℕ, cond, List, [], ◌∷◌, ◌++◌, length, drop, replicate, Some, None, Option, ◌==◌, nat_le, nat_lt}
 use Rattle.flow.specs.Answers.{Answer, answered, refused, after}
 use Rattle.flow.specs.Limits.{least_scratch}
 use Rattle.flow.specs.Meanings.{Meaning}
 use Rattle.flow.specs.declared.code.Code.{Code}
 use Rattle.frame.specs.declared.plan.Plan.{Plan}
 use Rattle.frame.specs.declared.marks.Mark.{Mark}
-use Rattle.frame.specs.Plans.{block_of, unit_of, next_offset}
+use Rattle.frame.specs.Plans.{block_of, unit_of, least_level, next_offset}
 use Rattle.frame.specs.Marking.{marked, dropped, marks_of, flow_estimate, flows}
 use Rattle.meter.specs.declared.record.Record.{Record}
 use Rattle.meter.specs.Ledgers.{plan_verdict, packet_verdict, restart_verdict}
@@ -111,7 +111,7 @@ module _ {C : Type 0} (m : Meaning C) where
   abbrev pub list_for : Option Plan → State m.Model → ℕ → ℕ → ℕ → Answer (List Record)
   list_for None s level scratch table = refused 17
   list_for (Some p) s level scratch table =
-      cond (nat_lt level (3 * unit_of p)) (refused 11)
+      cond (nat_lt level (least_level p)) (refused 11)
       (cond (nat_lt scratch least_scratch) (refused 12)
       (cond (nat_lt table (length (list_in s p level))) (refused 13)
       (answered (list_in s p level))))

@@ -1,6 +1,6 @@
 -- Worked sheets of the counters, as facts about the rules. Assumes nothing.
 --   flow            the code of a flow of a sheet
---   A, B, C, E      such flows
+--   A, B, C, D, E   such flows
 --   semi_first, semi_second, semi_third   the semi-ordered counter after A 7 and B 25, then C 3, then C 30
 --   SemiSheet       semi-ordered, two places, step 10: A 7 and B 25, then C 3, then C 30
 --   entry           an entry of a line
@@ -26,6 +26,9 @@ B = flow 2
 
 abbrev pub C : Code
 C = flow 3
+
+abbrev pub D : Code
+D = flow 4
 
 abbrev pub E : Code
 E = flow 5

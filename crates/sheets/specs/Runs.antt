@@ -1,9 +1,9 @@
 -- What the counters and the meter answer when their sheets are run. Assumes nothing.
 --   semi_answers     the answers of the semi-ordered counter
 --   shared_answers   the answers of the shared-deduction counter
---   blank            a record of a table that no list has written
+--   before           the records of a table before a list is written to it
 --   MeterRuns        the answers of the meter are these
-use Rattle.std.specs.Prelude.{◌≡◌, [], ◌∷◌, map}
+use Rattle.std.specs.Prelude.{◌≡◌, List, [], ◌∷◌, map}
 use Rattle.flow.specs.Answers.{answered, refused, told}
 use Rattle.meter.specs.declared.record.Record.{Record}
 use Rattle.sheets.specs.declared.counting.SemiAnswers.{SemiAnswers}
@@ -17,8 +17,8 @@ semi_answers = record { first_a = 7; first_b = 25; first_absent = 9; second_c = 
 abbrev pub shared_answers : SharedAnswers
 shared_answers = record { first_deduction = 3; first_a = 5; first_b = 3; first_c = 4; second_deduction = 4; second_a = 5; second_b = 4 }
 
-abbrev pub blank : Record
-blank = record { code = flow 0; estimate = 0 }
+abbrev pub before : List Record
+before = record { code = flow 8; estimate = 1 } ∷ record { code = flow 9; estimate = 2 } ∷ []
 
 pub record MeterRuns (r : MeterAnswers) : Type 0 where
   pub step_five : told r.step_five ≡ answered tt
@@ -28,8 +28,8 @@ pub record MeterRuns (r : MeterAnswers) : Type 0 where
   pub last : map told r.last ≡ answered 60 ∷ answered 50 ∷ []
   pub passes : map told r.passes ≡ answered 0 ∷ answered 0 ∷ answered 0 ∷ answered 0 ∷ answered 0 ∷ []
   pub level_60_count : told r.level_60.count ≡ answered 1
-  pub level_60_table : r.level_60.table ≡ record { code = A; estimate = 60 } ∷ []
+  pub level_60_table : r.level_60.table ≡ record { code = A; estimate = 60 } ∷ record { code = flow 9; estimate = 2 } ∷ []
   pub level_61_count : told r.level_61.count ≡ answered 0
-  pub level_61_table : r.level_61.table ≡ blank ∷ []
+  pub level_61_table : r.level_61.table ≡ before
   pub level_59_count : told r.level_59.count ≡ refused 11
-  pub level_59_table : r.level_59.table ≡ blank ∷ []
+  pub level_59_table : r.level_59.table ≡ before

@@ -1,9 +1,10 @@
--- All worked sheets, as facts about the rules. Assumes nothing.
---   Sheets   the sheets of keys, refusals, both counters and the meter
+-- All worked sheets, as facts about the rules and about the guarantee. Assumes nothing.
+--   Sheets   the sheets of keys, of refusals, of both counters, of the meter and of a day
 use Rattle.sheets.specs.CounterSheets.{SemiSheet, SemiPlaces, SharedSheet}
 use Rattle.sheets.specs.KeySheets.{PrefixSheet, AccountSheet}
-use Rattle.sheets.specs.MeterSheets.{MeterSheet}
 use Rattle.sheets.specs.RefusalSheets.{OpenSheet, AddSheet}
+use Rattle.sheets.specs.MeterSheets.{MeterSheet, FramesSheet}
+use Rattle.sheets.specs.DaySheets.{DaySheet}
 
 pub record Sheets : Type 0 where
   pub prefixes : PrefixSheet
@@ -14,3 +15,5 @@ pub record Sheets : Type 0 where
   pub semi_places : SemiPlaces
   pub shared : SharedSheet
   pub meter : MeterSheet
+  pub frames : FramesSheet
+  pub day : DaySheet

@@ -4,6 +4,7 @@
 ghost use Rattle.std.specs.Prelude.{◌≡◌, List};
 ghost use Rattle.semi.specs.Line.{Rising, placed, behind_last};
 ghost use Rattle.semi.specs.declared.entry.Entry.{Entry as Item};
+ghost use Rattle.sheets.specs.Readings.{AnswersTell, SaidTells, Sums, Shares};
 ghost use Rattle.sheets.specs.Runs.{semi_answers, shared_answers, MeterRuns};
 ghost use Rattle.sheets.specs.Sheets.{Sheets};
 
@@ -26,6 +27,10 @@ pub struct Answers {
 pub fn worked_sheets() -> Answers
     ensures sheets_stand { Sheets }
     ensures placed_behind_the_last { (e : Item) (line : List Item) → Rising line → placed e line ≡ behind_last e line }
+    ensures answers_tell_the_ledger { AnswersTell }
+    ensures what_is_said_tells_the_answer { SaidTells }
+    ensures volumes_sum_weights { Sums }
+    ensures blocks_share_the_window { Shares }
     ensures semi_ordered_runs { result.semi_ordered ≡ semi_answers }
     ensures shared_deduction_runs { result.shared_deduction ≡ shared_answers }
     ensures meter_runs { MeterRuns result.meter }

@@ -1,12 +1,12 @@
 // The meter's sheet, run.
-ghost use Rattle.std.specs.Prelude.{◌≡◌, [], ◌∷◌, length};
+ghost use Rattle.std.specs.Prelude.{◌≡◌};
 ghost use Rattle.flow.specs.Answers.{told};
 ghost use Rattle.flow.specs.Limits.{least_scratch};
 ghost use Rattle.semi.specs.Semi.{semi_meaning};
 ghost use Rattle.meter.specs.States.{plan_answer, list_answer, count_of, table_leaves};
 ghost use Rattle.meter.specs.Meters.{state_of};
 ghost use Rattle.sheets.specs.MeterSheets.{plan_of_step, unplanned_state};
-ghost use Rattle.sheets.specs.Runs.{MeterRuns, blank};
+ghost use Rattle.sheets.specs.Runs.{MeterRuns, before};
 
 use flow::account::Account;
 use flow::code::Code;
@@ -27,11 +27,23 @@ pub const PLAN: Plan = Plan {
     blocks: 2,
 };
 
-// What the call of a list answers, and the table then, which was one blank record.
+// The table that each list is lent. What no list writes has to stay.
+const TABLE: [Record; 2] = [
+    Record {
+        code: Code { high: 0, low: 8 },
+        estimate: 1,
+    },
+    Record {
+        code: Code { high: 0, low: 9 },
+        estimate: 2,
+    },
+];
+
+// What the call of a list answers, and the table then.
 #[derive(Debug, Clone, Copy, PartialEq, Eq)]
 pub struct Listed {
     pub count: Result<usize, Refusal>,
-    pub table: [Record; 1],
+    pub table: [Record; 2],
 }
 
 // What the meter answers on its sheet.
@@ -74,10 +86,10 @@ fn plan_with_step(step: u32) -> Result<(), Refusal>
 
 // The list of a meter at a level.
 fn list_at(meter: &Meter<SemiOrdered>, level: u64) -> Listed
-    ensures count { told result.count ≡ count_of (list_answer semi_meaning (state_of semi_meaning meter.now) level least_scratch 1) }
-    ensures table { result.table ≡ table_leaves (list_answer semi_meaning (state_of semi_meaning meter.now) level least_scratch 1) (blank ∷ []) }
+    ensures count { told result.count ≡ count_of (list_answer semi_meaning (state_of semi_meaning meter.now) level least_scratch 2) }
+    ensures table { result.table ≡ table_leaves (list_answer semi_meaning (state_of semi_meaning meter.now) level least_scratch 2) before }
 {
-    let mut table = [Record::default()];
+    let mut table = TABLE;
     let count = meter.list(level, &mut [0; LEAST_SCRATCH], &mut table);
     Listed { count, table }
 }

@@ -12,6 +12,9 @@ use flow::limits::{MOST_WEIGHT, MOST_WINDOW};
 use flow::refusal::Refusal;
 use flow::sizes::Sizes;
 
+// The units of the least level of a list.
+const LEAST_LEVEL_UNITS: u64 = 3;
+
 impl Plan {
     // Whether the numbers of a plan can be kept over a counter with this greatest step.
     fn check(&self, greatest_step: u32) -> Result<(), Refusal>
@@ -65,11 +68,11 @@ impl Layout {
         self.unit
     }
 
-    // Whether a list can be asked for at this level: only flows of three units or more are sure to have a mark.
+    // Whether a list can be asked for at this level: only flows of so much are sure to have a mark.
     pub fn check_level(&self, level: u64) -> Result<(), Refusal>
         ensures { told result ≡ level_judged self.now.plan level }
     {
-        if level < 3 * self.unit {
+        if level < LEAST_LEVEL_UNITS * self.unit {
             return Err(Refusal::LevelTooLow);
         }
         Ok(())

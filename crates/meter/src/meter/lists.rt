@@ -1,5 +1,5 @@
 // Lists of the heavy flows.
-ghost use Rattle.std.specs.Prelude.{◌≡◌, ◌≤◌, length, take, IfOk};
+ghost use Rattle.std.specs.Prelude.{◌≡◌, ◌≤◌, All, length, take, IfOk};
 ghost use Rattle.flow.specs.Answers.{told};
 ghost use Rattle.flow.specs.Limits.{most_marks};
 ghost use Rattle.meter.specs.Ledgers.{Ledger, level_verdict};
@@ -37,6 +37,7 @@ impl<C: FrameCounter> Meter<C> {
         ensures answer { told result ≡ count_of (list_answer C.meaning (state_of C.meaning self.now) level (length scratch.old) (length table.old)) }
         ensures table { table.new ≡ table_leaves (list_answer C.meaning (state_of C.meaning self.now) level (length scratch.old) (length table.old)) table.old }
         ensures scratch { scratch.new ≡ scratch_leaves (list_answer C.meaning (state_of C.meaning self.now) level (length scratch.old) (length table.old)) scratch.old }
+        ensures cleared { IfOk result (λ n. All (λ b. b ≡ 0) scratch.new) }
         ensures few { IfOk result (λ n. n ≤ most_marks) }
         ensures bounds { (l : Ledger) → Holds C.meaning (state_of C.meaning self.now) l → IfOk result (λ n. ListsUnder l.plan l.roll level (take n table.new)) }
     {

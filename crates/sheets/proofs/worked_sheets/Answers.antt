@@ -6,8 +6,10 @@ use Rattle.semi.specs.Estimates.{estimate_full}
 use Rattle.semi.proofs.Orders.{placed_last}
 use Rattle.sheets.specs.CounterSheets.{SemiSheet, SemiPlaces, SharedSheet, semi_first}
 use Rattle.sheets.specs.KeySheets.{PrefixSheet, AccountSheet}
-use Rattle.sheets.specs.MeterSheets.{MeterSheet}
+use Rattle.sheets.specs.MeterSheets.{MeterSheet, FramesSheet}
 use Rattle.sheets.specs.RefusalSheets.{OpenSheet, AddSheet}
+use Rattle.sheets.proofs.Daily.{day_sheet}
+use Rattle.sheets.proofs.Reading.{answers_tell, said_tells, sums_weights, shares}
 use Rattle.sheets.proofs.worked_sheets.Goals as goal
 
 prefixes : PrefixSheet
@@ -125,10 +127,22 @@ meter = record {
   level_59 = λ scratch table. refl;
 }
 
+frames : FramesSheet
+unfolding block_of unit_of
+frames = record {
+  told = refl;
+  sixth_list = refl;
+  eighth_list = refl;
+}
+
 pub returns : goal.returns
 returns c = record {
-  sheets_stand = record { prefixes = prefixes; accounts = accounts; opens = opens; adds = adds; semi = semi; semi_places = semi_places; shared = shared; meter = meter };
+  sheets_stand = record { prefixes = prefixes; accounts = accounts; opens = opens; adds = adds; semi = semi; semi_places = semi_places; shared = shared; meter = meter; frames = frames; day = day_sheet };
   placed_behind_the_last = placed_last;
+  answers_tell_the_ledger = answers_tell;
+  what_is_said_tells_the_answer = said_tells;
+  volumes_sum_weights = sums_weights;
+  blocks_share_the_window = shares;
   semi_ordered_runs = c.semi_sheet.ensures;
   shared_deduction_runs = c.shared_sheet.ensures;
   meter_runs = c.meter_sheet.ensures;
