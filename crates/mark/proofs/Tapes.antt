@@ -19,4 +19,9 @@ worked = record {
   key_unknown = refl;
   counter_unknown = refl;
   plan_cut = refl;
+  short_text = refl;
+  short_areas = refl;
+  short_table = refl;
+  longest = refl;
+  too_long = refl;
 }

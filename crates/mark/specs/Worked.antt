@@ -2,12 +2,10 @@
 --   digit         the value of a hexadecimal digit
 --   octets        the bytes that pairs of digits write
 --   tape_of       the bytes that digits write, whatever spaces stand between them
---   ample_areas   the lengths of a scratch and a table that suffice for every list
---   MarkedAs      the lines of a tape, by the rules of its kinds, are these
---   Worked        worked tapes: the sample, every command, the standing level and trial lists, plans of each fault, and what cannot be read
-use Rattle.std.specs.Prelude.{◌≡◌, ℕ, ◌+◌, ◌-◌, ◌*◌, cond, List, [], ◌∷◌, filter, codes, nat_lt}
-use Rattle.flow.specs.Limits.{least_text, least_scratch, most_marks}
-use Rattle.meter.specs.declared.day.Areas.{Areas}
+--   Gives         the lines of a tape, by the rules of its kinds, are these: with a text area, a scratch and a table of such lengths
+--   MarkedAs      so are those of the tape that digits write, with areas that suffice for every tape
+--   Worked        worked tapes: the sample, every command, the standing level and trial lists, plans of each fault, what cannot be read, short areas and long tapes
+use Rattle.std.specs.Prelude.{◌≡◌, ℕ, ◌+◌, ◌-◌, ◌*◌, cond, List, [], ◌∷◌, filter, replicate, codes, nat_lt}
 use Rattle.sitting.specs.Tapes.{tape_text}
 use Rattle.mark.specs.Kinds.{key_kind, counter_kind, over_kinds}
 
@@ -21,13 +19,12 @@ octets _ = []
 abbrev pub tape_of : List ℕ → List ℕ
 tape_of digits = octets (filter (λ c. nat_lt 32 c) digits)
 
-abbrev pub ample_areas : Areas
-ample_areas = record { scratch = least_scratch; table = most_marks }
+abbrev pub Gives : ℕ → ℕ → ℕ → List ℕ → List ℕ → Type 0
+Gives text scratch table tape lines =
+    over_kinds (key_kind tape) (counter_kind tape) (λ spelled key_bytes k c C m x. tape_text spelled (record { scratch = scratch; table = table }) key_bytes k c tape text m x) ≡ lines
 
 abbrev pub MarkedAs : List ℕ → List ℕ → Type 0
-MarkedAs digits lines =
-    let tape = tape_of digits in
-    over_kinds (key_kind tape) (counter_kind tape) (λ spelled key_bytes k c C m x. tape_text spelled ample_areas key_bytes k c tape least_text m x) ≡ lines
+MarkedAs digits lines = Gives 40960 510 510 (tape_of digits) lines
 
 -- most tapes have the plan of 3 places, step 1, greatest weight 10, and a window of 4 packets in 2 blocks, so that the unit is 20
 pub record Worked : Type 0 where
@@ -61,3 +58,14 @@ pub record Worked : Type 0 where
   pub counter_unknown : MarkedAs (codes "0203 08") (codes "no 15 1\nbroken 0 0\n")
   -- operands cut off
   pub plan_cut : MarkedAs (codes "0101 010003000000010000000A0000000400") (codes "no 16 2\nbroken 0 0\n")
+  -- areas of a byte or a record less than is asked for
+  pub short_text : Gives 40959 510 510 (tape_of (codes "0101 010003000000010000000A000000040002 08")) (codes "broken 0 0\n")
+  pub short_areas : Gives 40960 509 510
+      (tape_of (codes "0101 010003000000010000000A000000040002 020A000000080000000A 04 07000000000000003B 08"))
+      (codes "open\ntook 0\nno 12 29\nno 11 30\nclosed 1 10\n")
+  pub short_table : Gives 40960 510 0
+      (tape_of (codes "0101 010003000000010000000A000000040002 020A000000080000000A 020A000000080000000A 04 07000000000000003C 08"))
+      (codes "open\ntook 0\ntook 0\nlist 0\nno 13 40\nclosed 2 20\n")
+  -- a tape of 65,536 bytes is read, and one of a byte more is not
+  pub longest : Gives 40960 510 510 (1 ∷ 1 ∷ replicate 65534 0) (codes "no 15 2\nbroken 0 0\n")
+  pub too_long : Gives 40960 510 510 (1 ∷ 1 ∷ replicate 65535 0) (codes "no 19 0\nbroken 0 0\n")

@@ -18,7 +18,6 @@ use std::alloc::{AllocError, Global};
 
 // Begins a sitting for the kinds that the tape names, drives it to its end, and answers all its lines.
 // The rules say of the worked tapes what was reckoned by hand.
-#[tactic(auto, using(crate::proofs::Tapes::worked))]
 pub fn mark(
     heap: Global,
     tape: &[u8],
