@@ -13,7 +13,7 @@ use Rattle.meter.specs.Ledgers.{Ledger}
 use Rattle.meter.specs.States.{State, unplanned}
 use Rattle.sitting.specs.declared.sitting.Sitting.{Sitting}
 use Rattle.sitting.specs.Courses.{Course, begun}
-use Rattle.sitting.specs.Turns.{outcome_text, Turn, next_turn, course_left, text_left, table_left, scratch_left}
+use Rattle.sitting.specs.Turns.{outcome_text, Turn, next_turn, course_left, text_left, table_left, scratch_left, Follows}
 use Rattle.sitting.specs.Sittings.{course_of, lent}
 use Rattle.sitting.specs.Tapes.{most_turns, lines_text, last_text, outcomes_of, ended, left_by, Drives, turns_from, turns, tape_turns}
 
@@ -73,27 +73,24 @@ module _ {M : Type 0} where
         table_is = part_by (λ (z : Stand M). z.table) table_left (λ t z. refl) ts x;
       })
 
-  -- a command left what its turn leaves
-  pub record Left (a : Answer (Turn M)) (x y : Stand M) : Type 0 where
-    pub course_is : y.course ≡ course_left a x.course
-    pub text_is : y.text ≡ text_left a x.text
-    pub scratch_is : y.scratch ≡ scratch_left a x.scratch
-    pub table_is : y.table ≡ table_left a x.table
+  -- a command said and left what its turn does
+  abbrev pub Left : Answer (Turn M) → Answer ℕ → Stand M → Stand M → Type 0
+  Left a said x y = Follows a said x.course y.course x.text y.text x.scratch y.scratch x.table y.table
 
-  none_taken : (a : Answer (Turn M)) (n : ℕ) (x y : Stand M) → a ≡ refused n → Left a x y → y.lines ≡ x.lines → y ≡ x
-  none_taken a n x y e left same =
-      let l = subst (λ (b : Answer (Turn M)). Left b x y) e left in
+  none_taken : (a : Answer (Turn M)) (said : Answer ℕ) (n : ℕ) (x y : Stand M) → a ≡ refused n → Left a said x y → y.lines ≡ x.lines → y ≡ x
+  none_taken a said n x y e left same =
+      let l = subst (λ (b : Answer (Turn M)). Left b said x y) e left in
       λ i. record { course = l.course_is i; lines = same i; text = l.text_is i; scratch = l.scratch_is i; table = l.table_is i }
 
-  one_taken : (a : Answer (Turn M)) (t : Turn M) (x y : Stand M) → a ≡ answered t → Left a x y → y.lines ≡ x.lines ++ outcome_text t.outcome → y ≡ by_turn t x
-  one_taken a t x y e left more =
-      let l = subst (λ (b : Answer (Turn M)). Left b x y) e left in
+  one_taken : (a : Answer (Turn M)) (said : Answer ℕ) (t : Turn M) (x y : Stand M) → a ≡ answered t → Left a said x y → y.lines ≡ x.lines ++ outcome_text t.outcome → y ≡ by_turn t x
+  one_taken a said t x y e left more =
+      let l = subst (λ (b : Answer (Turn M)). Left b said x y) e left in
       λ i. record { course = l.course_is i; lines = more i; text = l.text_is i; scratch = l.scratch_is i; table = l.table_is i }
 
   -- the line of a turn stands at the front of the text that it leaves
-  front_outcome : (a : Answer (Turn M)) (t : Turn M) (x y : Stand M) → a ≡ answered t → Left a x y → take (length (outcome_text t.outcome)) y.text ≡ outcome_text t.outcome
-  front_outcome a t x y e left =
-      let l = subst (λ (b : Answer (Turn M)). Left b x y) e left in
+  front_outcome : (a : Answer (Turn M)) (said : Answer ℕ) (t : Turn M) (x y : Stand M) → a ≡ answered t → Left a said x y → take (length (outcome_text t.outcome)) y.text ≡ outcome_text t.outcome
+  front_outcome a said t x y e left =
+      let l = subst (λ (b : Answer (Turn M)). Left b said x y) e left in
       ap (take (length (outcome_text t.outcome))) l.text_is ∙ take-append_seam (outcome_text t.outcome) (drop (length (outcome_text t.outcome)) x.text)
 
 module _ {C : Type 0} (m : Meaning C) (spelled : List ℕ → Option Code) (key_bytes key_kind counter_kind : ℕ) (tape : List ℕ) (first : Stand (State m.Model)) where
@@ -124,17 +121,17 @@ module _ {C : Type 0} (m : Meaning C) (spelled : List ℕ → Option Code) (key_
         subst (λ (b : Answer (Turn (State m.Model))). by_turns (turns_from (left n) b) now ≡ by_turns (left most_turns first.course) first) (at_first ∙ is)
         (subst (λ (j : ℕ). by_turns (left j now.course) now ≡ by_turns (left most_turns first.course) first) k_is w.rest_is)
 
-    module _ (r : Result ℕ Refusal) (told_is : told r ≡ answer_map (λ t. length (outcome_text t.outcome)) next) (leaves : Left next now later) where
+    module _ (r : Result ℕ Refusal) (leaves : Left next (told r) now later) where
       pub way_over : (e : Refusal) → r ≡ Err e → later.lines ≡ now.lines → later ≡ by_turns (left most_turns first.course) first
       way_over e is same =
-          let none = told_refused (λ t. length (outcome_text t.outcome)) next (number e) (sym (ap told is) ∙ told_is) in
-          none_taken next (number e) now later none leaves same ∙ rest_from (refused (number e)) none
+          let none = told_refused (λ t. length (outcome_text t.outcome)) next (number e) (sym (ap told is) ∙ leaves.answer_is) in
+          none_taken next (told r) (number e) now later none leaves same ∙ rest_from (refused (number e)) none
 
       pub way_goes_on : (bytes : ℕ) → r ≡ Ok bytes → later.lines ≡ now.lines ++ take bytes later.text → (l : Ledger) → Holds m later.course.meter l → OnItsWay n later
       way_goes_on bytes is lines_is l h =
-          let (t, taken, bytes_is) = told_answered (λ (x : Turn (State m.Model)). length (outcome_text x.outcome)) next bytes (sym (ap told is) ∙ told_is) in
-          let front = ap (λ (b : ℕ). take b later.text) bytes_is ∙ front_outcome next t now later taken leaves in
-          let one = one_taken next t now later taken leaves (lines_is ∙ ap (λ (x : List ℕ). now.lines ++ x) front) in
+          let (t, taken, bytes_is) = told_answered (λ (x : Turn (State m.Model)). length (outcome_text x.outcome)) next bytes (sym (ap told is) ∙ leaves.answer_is) in
+          let front = ap (λ (b : ℕ). take b later.text) bytes_is ∙ front_outcome next (told r) t now later taken leaves in
+          let one = one_taken next (told r) t now later taken leaves (lines_is ∙ ap (λ (x : List ℕ). now.lines ++ x) front) in
           record {
             ledger = l;
             holds = h;

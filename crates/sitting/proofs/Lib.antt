@@ -3,4 +3,5 @@ pub mod Driving
 pub mod Lengths
 pub mod Pasting
 pub mod Promising
+pub mod Tallying
 pub mod Turning

@@ -1,11 +1,12 @@
 -- The guarantee over a whole tape, from what each turn keeps.
-use Rattle.std.proofs.Common.{◌≡◌, ℕ, ◌+◌, ◌<◌, ◌≤◌, ◌⊎◌, Bool, true, false, cond, ltb, List, ◌∷◌, length, take, Option, refl, ap, sym, ◌∙◌, subst, inl, inr, arith, zero, suc}
+use Rattle.std.proofs.Common.{◌≡◌, ℕ, ◌+◌, ◌<◌, ◌≤◌, ◌⊎◌, Bool, true, false, cond, ltb, List, ◌∷◌, ◌++◌, length, take, Option, refl, ap, sym, ◌∙◌, subst, inl, inr, zero-add, arith, zero, suc}
 use Rattle.std.proofs.Math.Seq.{take-append_seam}
 use Rattle.flow.specs.Answers.{Answer, answered, refused, answer_map}
 use Rattle.flow.specs.Limits.{least_text, most_tape}
 use Rattle.flow.specs.Meanings.{Meaning, Opens, Flushes, Adds, Heavy}
 use Rattle.flow.specs.declared.code.Code.{Code}
 use Rattle.meter.specs.declared.day.Areas.{Areas}
+use Rattle.meter.specs.declared.record.Record.{Record}
 use Rattle.meter.specs.Holding.{Holds}
 use Rattle.meter.specs.Ledgers.{Ledger, fresh, level_verdict}
 use Rattle.meter.specs.Sequences.{call_said}
@@ -13,17 +14,18 @@ use Rattle.meter.specs.States.{State, unplanned}
 use Rattle.meter.proofs.Dailies.{call_right, call_holds}
 use Rattle.meter.proofs.Holdings.{new_holds}
 use Rattle.tape.specs.declared.command.Command.{Command}
-use Rattle.tape.specs.Readings.{Found, found, stopped, next_in}
+use Rattle.tape.specs.Readings.{Found, found, stopped, next_command}
 use Rattle.tape.proofs.Ahead.{ahead}
 use Rattle.sitting.specs.declared.reply.Reply.TheVariants as reply
 use Rattle.sitting.specs.declared.stage.Stage.{Stage}
 use Rattle.sitting.specs.declared.stage.Stage.TheVariants as stage
 use Rattle.sitting.specs.Courses.{Course, begun, Ask, calls, sets, closes, asked}
-use Rattle.sitting.specs.Lines.{over}
-use Rattle.sitting.specs.Turns.{outcome_text, Turn, unless_done, answer_of, meter_after, turned, next_turn, course_left}
+use Rattle.sitting.specs.Lines.{last_line}
+use Rattle.sitting.specs.Turns.{outcome_text, Turn, unless_done, answer_of, meter_after, turned, next_turn, course_left, Follows}
 use Rattle.frame.specs.declared.plan.Plan.{Plan}
-use Rattle.sitting.specs.Markings.{ledger_after, with_ledger, ledger_at, AnswerRight, is_over, OutcomeRight, after_outcome, ledger_left, PrintsRight, Outcomes, Marked}
-use Rattle.sitting.specs.Tapes.{most_turns, outcomes_of, turns_from, turns, ended, tape_turns, tape_text}
+use Rattle.sitting.specs.Markings.{ledger_after, with_ledger, ledger_at, AnswerRight, is_over, OutcomeRight, after_outcome, weights_taken, ledger_left, PrintsRight, Outcomes, Marked}
+use Rattle.sitting.specs.Tapes.{most_turns, lines_text, ending_of, outcomes_of, turns_from, turns, ended, tape_turns, tape_text}
+use Rattle.sitting.proofs.Tallying.{Tallied, none_tallied, more_tallied, turn_tallied}
 
 module _ {C : Type 0} (m : Meaning C) (opens : Opens m) (flushes : Flushes m) (adds : Adds m) (heavy : Heavy m) where
   answer_right : (s : State m.Model) (l : Ledger) (c : Command (List ℕ)) (q : Answer Ask) → Holds m s l → AnswerRight l c q (answer_of m s c q)
@@ -54,7 +56,7 @@ module _ {C : Type 0} (m : Meaning C) (opens : Opens m) (flushes : Flushes m) (a
 
     module _ (key_bytes key_kind counter_kind : ℕ) (tape : List ℕ) (text : ℕ) where
       abbrev here : Course (State m.Model) → Found
-      here s = next_in key_bytes key_kind counter_kind s.place tape
+      here s = next_command key_bytes key_kind counter_kind s.place tape
 
       abbrev next : Course (State m.Model) → Answer (Turn (State m.Model))
       next s = next_turn m spelled key_bytes key_kind counter_kind s tape text areas
@@ -89,25 +91,31 @@ module _ {C : Type 0} (m : Meaning C) (opens : Opens m) (flushes : Flushes m) (a
           Held a = Holds m (course_left a s).meter (ledger_left spelled areas key_bytes key_kind counter_kind tape s a l)
 
       -- a turn that was printed in front of the text is right
-      pub prints_right : (s : Course (State m.Model)) (l : Ledger) (place : ℕ) (f : Found) (n : ℕ) (before now : List ℕ) → place ≡ s.place → f ≡ next_in key_bytes key_kind counter_kind place tape →
-          n ≡ length (outcome_text (turned m spelled s areas f).outcome) → now ≡ over (outcome_text (turned m spelled s areas f).outcome) before → Holds m s.meter l →
+      pub prints_right : (s : Course (State m.Model)) (l : Ledger) (place : ℕ) (f : Found) → place ≡ s.place → f ≡ next_command key_bytes key_kind counter_kind place tape →
+          {n : ℕ} {s' : Course (State m.Model)} {before now scratch scratch' : List ℕ} {table table' : List Record} →
+          Follows (answered (turned m spelled s areas f)) (answered n) s s' before now scratch scratch' table table' → Holds m s.meter l →
           PrintsRight spelled areas key_bytes key_kind counter_kind tape (with_ledger s l) (take n now)
-      prints_right s l place f n before now same is bytes printed h = (
-        (turned m spelled s areas f).outcome,
-        subst (λ (x : Found). OutcomeRight spelled areas (with_ledger s l) x (turned m spelled s areas f).outcome) (is ∙ ap (λ (x : ℕ). next_in key_bytes key_kind counter_kind x tape) same) (outcome_right s l f h),
-        ap (λ (k : ℕ). take k now) bytes ∙ ap (take (length (outcome_text (turned m spelled s areas f).outcome))) printed ∙ take-append_seam (outcome_text (turned m spelled s areas f).outcome) _,
-      )
+      prints_right s l place f same is {n} {s'} {before} {now} follows h =
+          let t = (turned m spelled s areas f).outcome in
+          let bytes : n ≡ length (outcome_text t) = let e = follows.answer_is in cc in (
+            t,
+            subst (λ (x : Found). OutcomeRight spelled areas (with_ledger s l) x t) (is ∙ ap (λ (x : ℕ). next_command key_bytes key_kind counter_kind x tape) same) (outcome_right s l f h),
+            ap (λ (k : ℕ). take k now) bytes ∙ ap (take (length (outcome_text t))) follows.text_is ∙ take-append_seam (outcome_text t) _,
+          )
 
       -- so many turns are enough
       Enough : ℕ → Course (State m.Model) → Type 0
-      Enough n s = (is_over text s.stage ≡ true) ⊎ ((s.place ≤ most_tape) × (most_tape < s.place + n))
+      Enough n s = (is_over text s.stage ≡ true) ⊎ (((s.place ≤ most_tape) × (most_tape < s.place + n)) ⊎ ((s.place ≡ 0) × (most_tape < 2 + n)))
 
       still_enough : (n : ℕ) (s : Course (State m.Model)) (f : Found) → here s ≡ f → Enough (suc n) s → is_over text s.stage ≡ false → Enough n (turned m spelled s areas f).after
       unfolding Enough
       still_enough n s (found offset c end) is (inl over) on = cc
       still_enough n s (found offset c end) is (inr room) on =
           let h = ahead key_bytes key_kind counter_kind s.place tape offset c end is in
-          inr (h.1, omega (arith, h.0, room.1))
+          elim room [
+            | inl r ↦ inr (inl (h.1, omega (arith, h.0, r.1)))
+            | inr r ↦ inr (inl (h.1, omega (arith, h.2 r.0, r.1)))
+          ]
       still_enough n s (stopped k offset) is room on = inl refl
 
       abbrev the_turns : ℕ → Course (State m.Model) → List (Turn (State m.Model))
@@ -128,7 +136,8 @@ module _ {C : Type 0} (m : Meaning C) (opens : Opens m) (flushes : Flushes m) (a
       outcomes : (n : ℕ) (s : Course (State m.Model)) (l : Ledger) → Holds m s.meter l → Enough n s → Prints s l (the_turns n s)
       unfolding Prints Enough turns
       outcomes zero s l h (inl over) = (l, (over, refl))
-      outcomes zero s l h (inr room) = absurd (omega arith)
+      outcomes zero s l h (inr (inl r)) = absurd (omega (arith, r.0, r.1))
+      outcomes zero s l h (inr (inr r)) = absurd (omega (arith, r.1))
       outcomes (suc n) s l h room = elim (goes_on s) [
         | inl (over, (k, e)) ↦ subst (λ (a : Answer (Turn (State m.Model))). Prints s l (turns_from (the_turns n) a)) (sym e) (l, (over, refl))
         | inr (on, e) ↦ subst (λ (a : Answer (Turn (State m.Model))). Prints s l (turns_from (the_turns n) a)) (sym e)
@@ -136,10 +145,28 @@ module _ {C : Type 0} (m : Meaning C) (opens : Opens m) (flushes : Flushes m) (a
             (outcomes n (turned m spelled s areas (here s)).after (ledger_at spelled areas l s.stage (here s)) (turn_holds s l (here s) h) (still_enough n s (here s) refl room on)))
       ]
 
+      AllTallied : Course (State m.Model) → List (Turn (State m.Model)) → Type 0
+      AllTallied s ts = let last = ended s ts in Tallied s.packets s.volume (weights_taken key_bytes tape (outcomes_of ts)) last.packets last.volume
+
+      all_tallied : (n : ℕ) (s : Course (State m.Model)) → AllTallied s (the_turns n s)
+      unfolding AllTallied turns
+      all_tallied zero s = none_tallied s.packets s.volume
+      all_tallied (suc n) s = elim (goes_on s) [
+        | inl (over, (k, e)) ↦ subst (λ (a : Answer (Turn (State m.Model))). AllTallied s (turns_from (the_turns n) a)) (sym e) (none_tallied s.packets s.volume)
+        | inr (on, e) ↦ subst (λ (a : Answer (Turn (State m.Model))). AllTallied s (turns_from (the_turns n) a)) (sym e)
+            (more_tallied _ _ (turn_tallied m spelled areas key_bytes key_kind counter_kind tape s (here s) refl) (all_tallied n (turned m spelled s areas (here s)).after))
+      ]
+
       -- the whole guarantee
       pub marked : (x : m.Model) → Marked spelled areas key_bytes key_kind counter_kind tape text (m.greatest x) (tape_text spelled areas key_bytes key_kind counter_kind tape text m x)
-      unfolding Prints Enough
+      unfolding Prints Enough AllTallied
       marked x =
-          let r = outcomes most_turns (begun (unplanned x)) (fresh (m.greatest x)) (new_holds m x) (inr (omega arith, omega arith)) in
+          let r = outcomes most_turns (begun (unplanned x)) (fresh (m.greatest x)) (new_holds m x) (inr (inr (refl, omega arith))) in
           let ts = tape_turns spelled areas key_bytes key_kind counter_kind tape text m x in
-          (outcomes_of ts, with_ledger (ended (begun (unplanned x)) ts) r.0, r.1, refl)
+          let last = ended (begun (unplanned x)) ts in
+          let sums = all_tallied most_turns (begun (unplanned x)) in (
+            outcomes_of ts,
+            with_ledger last r.0,
+            r.1,
+            λ i. lines_text (outcomes_of ts) ++ last_line (ending_of last.stage) ((sums.packets_are ∙ zero-add _) i) ((sums.volume_is ∙ zero-add _) i),
+          )

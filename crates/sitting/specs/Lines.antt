@@ -1,7 +1,7 @@
 -- The lines that are printed for a tape, as bytes. Assumes nothing.
 --   longest_flow_line     the bytes that the line of a flow takes at most: a word of four, three numbers of twenty digits behind a space each, and the newline
 --   longest_last_line     the bytes that a last line has room for
---   most_weight_written   the greatest weight that the four bytes of a packet write
+--   most_weight_written   the greatest weight that the bytes of a packet write
 --   spaced                a number behind a space
 --   line                  a line: a word, some numbers behind a space each, and the newline that ends it
 --   reply_map             a reply with other records
@@ -14,10 +14,11 @@
 --   last_line             the last line of a sitting: the packets accepted, and their volume
 --   pasted                a text with some bytes at a place
 --   over                  a text with some bytes at its front
-use Rattle.std.specs.Prelude.{ℕ, ◌+◌, ◌≤◌, List, [], ◌∷◌, ◌++◌, length, take, drop, flat_map, codes}
+use Rattle.std.specs.Prelude.{ℕ, ◌+◌, ◌-◌, ◌^◌, ◌≤◌, List, [], ◌∷◌, ◌++◌, length, take, drop, flat_map, codes}
 use Rattle.std.specs.Fmt.{decimal}
 use Rattle.flow.specs.Limits.{most_marks}
 use Rattle.meter.specs.declared.record.Record.{Record}
+use Rattle.tape.specs.Commands.{weight_bytes}
 use Rattle.sitting.specs.declared.reply.Reply.{Reply}
 use Rattle.sitting.specs.declared.reply.Reply.TheVariants as reply
 use Rattle.sitting.specs.declared.ending.Ending.{Ending}
@@ -30,7 +31,7 @@ abbrev pub longest_last_line : ℕ
 longest_last_line = 32
 
 abbrev pub most_weight_written : ℕ
-most_weight_written = 4294967295
+most_weight_written = 256 ^ weight_bytes - 1
 
 abbrev pub spaced : ℕ → List ℕ
 spaced n = codes " " ++ decimal n

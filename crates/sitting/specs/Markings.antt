@@ -4,29 +4,33 @@
 --   AnswerRight     what a command may be answered
 --   with_ledger     a course with a ledger in place of its meter
 --   is_over         no command is taken any more: the text area is too short, or the sitting is done
+--   weight_taken    the weight of the packet that an answer says was taken: what stands on the tape behind its key
+--   weights_taken   the weights of all packets that were taken
 --   ledger_at       the ledger after what stands on the tape
 --   OutcomeRight    what may be said of what stands on the tape
 --   after_outcome   the course after that, with the ledger in place of the meter
 --   ledger_left     the ledger after a turn
 --   PrintsRight     what may be printed for what stands on the tape
 --   Outcomes        what may be said of the commands of a tape, one after the other, until it is over
---   Marked          what may be printed for a whole tape over a counter of this greatest step: the guarantee
-use Rattle.std.specs.Prelude.{◌≡◌, ℕ, Bool, true, false, List, [], ◌∷◌, ◌++◌, Option, nat_lt}
+--   Marked          what may be printed for a whole tape over a counter of this greatest step: the guarantee. The last line has the number of the packets that were taken, and the sum of their weights
+use Rattle.std.specs.Prelude.{◌≡◌, ℕ, ◌+◌, Bool, true, false, List, [], ◌∷◌, ◌++◌, length, sum, Option, nat_lt}
 use Rattle.flow.specs.Answers.{Answer, answered, refused, answer_map, after}
 use Rattle.flow.specs.Limits.{least_text}
+use Rattle.flow.specs.Spellings.{be32}
 use Rattle.flow.specs.declared.code.Code.{Code}
 use Rattle.meter.specs.declared.day.Areas.{Areas}
 use Rattle.meter.specs.declared.record.Record.{Record}
 use Rattle.meter.specs.Days.{Said, step, Right}
 use Rattle.meter.specs.Ledgers.{Ledger, fresh, level_verdict}
 use Rattle.tape.specs.declared.command.Command.{Command}
-use Rattle.tape.specs.Readings.{Found, found, stopped, next_in}
+use Rattle.tape.specs.Readings.{Found, found, stopped, next_command}
 use Rattle.sitting.specs.declared.reply.Reply.{Reply}
 use Rattle.sitting.specs.declared.reply.Reply.TheVariants as reply
 use Rattle.sitting.specs.declared.stage.Stage.{Stage}
 use Rattle.sitting.specs.declared.stage.Stage.TheVariants as stage
 use Rattle.sitting.specs.Courses.{Course, begun, Ask, calls, sets, closes, asked, advanced, broken}
-use Rattle.sitting.specs.Tapes.{lines_text, last_text}
+use Rattle.sitting.specs.Lines.{last_line}
+use Rattle.sitting.specs.Tapes.{lines_text, ending_of}
 use Rattle.sitting.specs.Turns.{Outcome, outcome_text, replied, Turn}
 
 abbrev pub ledger_after : Ledger → Answer Ask → Ledger
@@ -51,6 +55,16 @@ abbrev pub is_over : ℕ → Stage → Bool
 is_over text (stage.Done e) = true
 is_over text s = nat_lt text least_text
 
+-- on a tape, for keys of so many bytes
+module _ (key_bytes : ℕ) (tape : List ℕ) where
+  abbrev pub weight_taken : ℕ → Answer (Reply (List Record)) → List ℕ
+  weight_taken offset (answered (reply.Took x)) = be32 tape (offset + (1 + key_bytes)) ∷ []
+  weight_taken offset a = []
+
+  abbrev pub weights_taken : List Outcome → List ℕ
+  weights_taken [] = []
+  weights_taken (t ∷ ts) = weight_taken t.offset t.answer ++ weights_taken ts
+
 -- by the codes that bytes spell, with a scratch and a table of some lengths
 module _ (spelled : List ℕ → Option Code) (areas : Areas) where
   abbrev pub ledger_at : Ledger → Stage → Found → Ledger
@@ -68,18 +82,20 @@ module _ (spelled : List ℕ → Option Code) (areas : Areas) where
   -- for keys of so many bytes and kinds of these numbers, and a tape
   module _ (key_bytes key_kind counter_kind : ℕ) (tape : List ℕ) where
     abbrev pub ledger_left : {M : Type 0} → Course M → Answer (Turn M) → Ledger → Ledger
-    ledger_left s t l = after t l (ledger_at l s.stage (next_in key_bytes key_kind counter_kind s.place tape))
+    ledger_left s t l = after t l (ledger_at l s.stage (next_command key_bytes key_kind counter_kind s.place tape))
 
     abbrev pub PrintsRight : Course Ledger → List ℕ → Type 0
-    PrintsRight s lines = (t : Outcome) × OutcomeRight s (next_in key_bytes key_kind counter_kind s.place tape) t × (lines ≡ outcome_text t)
+    PrintsRight s lines = (t : Outcome) × OutcomeRight s (next_command key_bytes key_kind counter_kind s.place tape) t × (lines ≡ outcome_text t)
 
     -- and a text area of some length
     module _ (text : ℕ) where
       abbrev pub Outcomes : Course Ledger → List Outcome → Course Ledger → Type 0
       Outcomes s [] e = (is_over text s.stage ≡ true) × (e ≡ s)
       Outcomes s (t ∷ ts) e =
-          let here = next_in key_bytes key_kind counter_kind s.place tape in
+          let here = next_command key_bytes key_kind counter_kind s.place tape in
           (is_over text s.stage ≡ false) × OutcomeRight s here t × Outcomes (after_outcome s here t) ts e
 
       abbrev pub Marked : ℕ → List ℕ → Type 0
-      Marked greatest lines = (ts : List Outcome) × (e : Course Ledger) × Outcomes (begun (fresh greatest)) ts e × (lines ≡ lines_text ts ++ last_text e)
+      Marked greatest lines =
+          (ts : List Outcome) × (e : Course Ledger) × Outcomes (begun (fresh greatest)) ts e ×
+          (let weights = weights_taken key_bytes tape ts in lines ≡ lines_text ts ++ last_line (ending_of e.stage) (length weights) (sum weights))

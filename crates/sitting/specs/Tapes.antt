@@ -1,5 +1,5 @@
 -- A whole tape: its lines by the rules. Assumes nothing.
---   most_turns    the turns that are enough for every tape: one more than a tape may have bytes
+--   most_turns    the turns that are enough for every tape
 --   lines_text    the lines of some commands
 --   ending_of     how a sitting ended: broken, unless a close was taken
 --   last_text     the last line of a sitting
@@ -11,7 +11,7 @@
 --   turns         the turns of a tape, at most so many
 --   tape_turns    the turns of a whole tape
 --   tape_text     the lines of a whole tape, the last one too
-use Rattle.std.specs.Prelude.{◌≡◌, ℕ, ◌+◌, List, [], ◌∷◌, ◌++◌, map, Option}
+use Rattle.std.specs.Prelude.{◌≡◌, ℕ, ◌+◌, ◌-◌, List, [], ◌∷◌, ◌++◌, map, Option}
 use Rattle.std.proofs.Common.{zero, suc}
 use Rattle.flow.specs.Answers.{Answer, answered, refused}
 use Rattle.flow.specs.Limits.{most_tape}
@@ -28,9 +28,9 @@ use Rattle.sitting.specs.Lines.{last_line}
 use Rattle.sitting.specs.Courses.{Course, begun}
 use Rattle.sitting.specs.Turns.{Outcome, outcome_text, Turn, next_turn, course_left, text_left, table_left, scratch_left}
 
--- every command takes a byte, and what cannot be read ends the sitting
+-- two bytes name the kinds, every command takes a byte at least, and behind the last one a turn finds that the tape ends
 abbrev pub most_turns : ℕ
-most_turns = most_tape + 1
+most_turns = most_tape - 2 + 1
 
 abbrev pub lines_text : List Outcome → List ℕ
 lines_text [] = []

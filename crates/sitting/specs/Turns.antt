@@ -19,7 +19,8 @@
 --   text_left       the text after a turn
 --   table_left      the table after a turn
 --   scratch_left    the scratch after a turn
-use Rattle.std.specs.Prelude.{ℕ, cond, List, Option, nat_lt}
+--   Follows         a call says how many bytes the lines of a turn have, and leaves the course and the areas as the turn does
+use Rattle.std.specs.Prelude.{◌≡◌, ℕ, cond, List, length, Option, nat_lt}
 use Rattle.flow.specs.Answers.{Answer, answered, refused, answer_map}
 use Rattle.flow.specs.Limits.{least_text}
 use Rattle.flow.specs.Meanings.{Meaning}
@@ -32,7 +33,7 @@ use Rattle.meter.specs.Sequences.{call_said, call_leaves}
 use Rattle.meter.specs.States.{State, table_leaves, scratch_leaves}
 use Rattle.tape.specs.declared.command.Command.{Command}
 use Rattle.tape.specs.declared.command.Command.TheVariants as command
-use Rattle.tape.specs.Readings.{Found, found, stopped, next_in}
+use Rattle.tape.specs.Readings.{Found, found, stopped, next_command}
 use Rattle.sitting.specs.declared.reply.Reply.{Reply}
 use Rattle.sitting.specs.declared.reply.Reply.TheVariants as reply
 use Rattle.sitting.specs.declared.stage.Stage.{Stage}
@@ -116,7 +117,7 @@ module _ {C : Type 0} (m : Meaning C) where
       abbrev pub next_turn : Course (State m.Model) → List ℕ → ℕ → Areas → Answer (Turn (State m.Model))
       next_turn s tape text areas =
           cond (nat_lt text least_text) (refused 18)
-          (unless_done s.stage (turned s areas (next_in key_bytes key_kind counter_kind s.place tape)))
+          (unless_done s.stage (turned s areas (next_command key_bytes key_kind counter_kind s.place tape)))
 
 module _ {M : Type 0} where
   abbrev pub course_left : Answer (Turn M) → Course M → Course M
@@ -134,3 +135,10 @@ module _ {M : Type 0} where
   abbrev pub scratch_left : Answer (Turn M) → List ℕ → List ℕ
   scratch_left (answered t) scratch = scratch_after t.outcome.answer scratch
   scratch_left (refused n) scratch = scratch
+
+  pub record Follows (a : Answer (Turn M)) (said : Answer ℕ) (s s' : Course M) (text text' scratch scratch' : List ℕ) (table table' : List Record) : Type 0 where
+    pub answer_is : said ≡ answer_map (λ t. length (outcome_text t.outcome)) a
+    pub course_is : s' ≡ course_left a s
+    pub text_is : text' ≡ text_left a text
+    pub scratch_is : scratch' ≡ scratch_left a scratch
+    pub table_is : table' ≡ table_left a table

@@ -1,10 +1,8 @@
 // Whole tapes.
 ghost use Rattle.std.specs.Prelude.{◌≡◌, length, IfOk, OnOk};
-ghost use Rattle.meter.specs.Holding.{Holds};
-ghost use Rattle.meter.specs.Ledgers.{Ledger};
 ghost use Rattle.sitting.specs.Markings.{Marked};
 ghost use Rattle.sitting.specs.Tapes.{most_turns, left_by, Drives, turns, tape_turns, tape_text};
-ghost use Rattle.sitting.specs.Sittings.{course_of, lent};
+ghost use Rattle.sitting.specs.Sittings.{course_of, UnderLedgers, lent};
 ghost use Rattle.sitting.specs.Turns.{text_left, table_left, scratch_left};
 
 use crate::sitting::Sitting;
@@ -15,8 +13,8 @@ use meter::record::Record;
 use std::alloc::{AllocError, Global};
 use tape::kind::TapeKind;
 
-// The turns that are enough for every tape: every command takes a byte, and what cannot be read ends the sitting.
-const MOST_TURNS: usize = MOST_TAPE + 1;
+// The turns that are enough for every tape: two bytes name its kinds, every command takes a byte at least, and behind the last one a turn finds that the tape ends.
+const MOST_TURNS: usize = MOST_TAPE - 2 + 1;
 
 impl<K: FlowKey + TapeKind + Drop, C: FrameCounter + TapeKind> Sitting<K, C> {
     // Takes the commands of a tape until no more is taken, and answers their lines.
@@ -28,7 +26,9 @@ impl<K: FlowKey + TapeKind + Drop, C: FrameCounter + TapeKind> Sitting<K, C> {
         scratch: &mut [u8],
         table: &mut [Record],
     ) -> Result<Vec<u8>, AllocError>
-        ensures { (l : Ledger) → Holds C.meaning (course_of C.meaning self.old).meter l → IfOk result (λ v. Drives (turns K.spelled (lent scratch.old table.old) K.BYTES K.NUMBER C.NUMBER tape.now (length text.old) C.meaning most_turns (course_of C.meaning self.old)) (course_of C.meaning self.old) (course_of C.meaning self.new) v.items text.old text.new scratch.old scratch.new table.old table.new) }
+        ensures { let course = course_of C.meaning self.old in
+            let turns = turns K.spelled (lent scratch.old table.old) K.BYTES K.NUMBER C.NUMBER tape.now (length text.old) C.meaning most_turns course in
+            UnderLedgers C.meaning self.old (λ l. IfOk result (λ v. Drives turns course (course_of C.meaning self.new) v.items text.old text.new scratch.old scratch.new table.old table.new)) }
     {
         let mut lines = Vec::new(heap);
         for _ in 0..MOST_TURNS {
@@ -41,7 +41,7 @@ impl<K: FlowKey + TapeKind + Drop, C: FrameCounter + TapeKind> Sitting<K, C> {
     }
 }
 
-// Outcomes a tape: begins a sitting over the counter, takes the commands of the tape until no more is taken, and finishes the sitting. Answers all its lines, the last one too.
+// Marks a tape: begins a sitting over the counter, takes the commands of the tape until no more is taken, and finishes the sitting. Answers all its lines, the last one too.
 pub fn mark_tape<K: FlowKey + TapeKind + Drop, C: FrameCounter + TapeKind + Drop>(
     heap: Global,
     counter: C,
@@ -51,10 +51,14 @@ pub fn mark_tape<K: FlowKey + TapeKind + Drop, C: FrameCounter + TapeKind + Drop
     table: &mut [Record],
 ) -> Result<Vec<u8>, AllocError>
     ensures lines { IfOk result (λ v. v.items ≡ tape_text K.spelled (lent scratch.old table.old) K.BYTES K.NUMBER C.NUMBER tape.now (length text.old) C.meaning (C.meaning.model counter)) }
-    ensures guarantee { IfOk result (λ v. Marked K.spelled (lent scratch.old table.old) K.BYTES K.NUMBER C.NUMBER tape.now (length text.old) (C.meaning.greatest (C.meaning.model counter)) v.items) }
-    ensures text { OnOk result (text.new ≡ left_by text_left (tape_turns K.spelled (lent scratch.old table.old) K.BYTES K.NUMBER C.NUMBER tape.now (length text.old) C.meaning (C.meaning.model counter)) text.old) }
-    ensures scratch { OnOk result (scratch.new ≡ left_by scratch_left (tape_turns K.spelled (lent scratch.old table.old) K.BYTES K.NUMBER C.NUMBER tape.now (length text.old) C.meaning (C.meaning.model counter)) scratch.old) }
-    ensures table { OnOk result (table.new ≡ left_by table_left (tape_turns K.spelled (lent scratch.old table.old) K.BYTES K.NUMBER C.NUMBER tape.now (length text.old) C.meaning (C.meaning.model counter)) table.old) }
+    ensures guarantee { let greatest = C.meaning.greatest (C.meaning.model counter) in
+        IfOk result (λ v. Marked K.spelled (lent scratch.old table.old) K.BYTES K.NUMBER C.NUMBER tape.now (length text.old) greatest v.items) }
+    ensures text { let turns = tape_turns K.spelled (lent scratch.old table.old) K.BYTES K.NUMBER C.NUMBER tape.now (length text.old) C.meaning (C.meaning.model counter) in
+        OnOk result (text.new ≡ left_by text_left turns text.old) }
+    ensures scratch { let turns = tape_turns K.spelled (lent scratch.old table.old) K.BYTES K.NUMBER C.NUMBER tape.now (length text.old) C.meaning (C.meaning.model counter) in
+        OnOk result (scratch.new ≡ left_by scratch_left turns scratch.old) }
+    ensures table { let turns = tape_turns K.spelled (lent scratch.old table.old) K.BYTES K.NUMBER C.NUMBER tape.now (length text.old) C.meaning (C.meaning.model counter) in
+        OnOk result (table.new ≡ left_by table_left turns table.old) }
 {
     let (mut sitting, slip) = Sitting::<K, C>::begin(counter);
     let driven = sitting.drive(heap, tape, text, scratch, table);

@@ -7,9 +7,9 @@ use Rattle.flow.specs.Limits.{most_tape}
 use Rattle.tape.specs.declared.command.Command.{Command}
 use Rattle.tape.specs.declared.command.Command.TheVariants as command
 use Rattle.tape.specs.Commands.{due, command_named, command_at, size}
-use Rattle.tape.specs.Readings.{found, stopped, placed, first_command, command_from, next_in}
+use Rattle.tape.specs.Readings.{found, stopped, placed, first_command, command_from, next_command}
 
-due_fits : (n : ℕ) (operands : List ℕ) (x c : Command (List ℕ)) → due n operands x ≡ answered c → (x ≡ c) × (n ≤ length operands)
+pub due_fits : (n : ℕ) (operands : List ℕ) (x c : Command (List ℕ)) → due n operands x ≡ answered c → (x ≡ c) × (n ≤ length operands)
 due_fits n operands x c e =
     elim (cases_Bool (ltb (length operands) n)) [
       | inl short ↦ absurd (grind (arith, nat_tests))
@@ -51,32 +51,37 @@ module _ (key_bytes : ℕ) where
       (h.0, omega (arith, h.1, length-drop place tape))
 
   module _ (key_kind counter_kind : ℕ) where
-    first_fits : (tape : List ℕ) (o : ℕ) (c : Command (List ℕ)) (end : ℕ) → first_command key_bytes key_kind counter_kind tape ≡ found o c end → (0 < end) × (end ≤ length tape)
+    first_fits : (tape : List ℕ) (o : ℕ) (c : Command (List ℕ)) (end : ℕ) → first_command key_bytes key_kind counter_kind tape ≡ found o c end → (2 < end) × (end ≤ length tape)
     first_fits [] o c end = λ e. cc
     first_fits (a ∷ []) o c end = by (eqb a key_kind)
       where
-        by : (d : Bool) → cond d (stopped 16 1) (stopped 15 0) ≡ found o c end → (0 < end) × (end ≤ 1)
+        by : (d : Bool) → cond d (stopped 16 1) (stopped 15 0) ≡ found o c end → (2 < end) × (end ≤ 1)
         by true e = cc
         by false e = cc
     first_fits (a ∷ b ∷ rest) o c end = by (eqb a key_kind) (eqb b counter_kind)
       where
-        by : (d f : Bool) → cond d (cond f (placed key_bytes 2 (command_at key_bytes rest)) (stopped 15 1)) (stopped 15 0) ≡ found o c end → (0 < end) × (end ≤ length (a ∷ b ∷ rest))
+        by : (d f : Bool) → cond d (cond f (placed key_bytes 2 (command_at key_bytes rest)) (stopped 15 1)) (stopped 15 0) ≡ found o c end → (2 < end) × (end ≤ length (a ∷ b ∷ rest))
         by true true e = let h = placed_fits 2 rest o c end e in (omega (arith, h.0), omega (arith, h.1))
         by true false e = cc
         by false f e = cc
 
-    pub ahead : (place : ℕ) (tape : List ℕ) (o : ℕ) (c : Command (List ℕ)) (end : ℕ) → next_in key_bytes key_kind counter_kind place tape ≡ found o c end → (place < end) × (end ≤ most_tape)
+    -- the first command stands behind two bytes
+    abbrev pub Ahead : ℕ → ℕ → Type 0
+    Ahead place end = (place < end) × (end ≤ most_tape) × (place ≡ 0 → 2 < end)
+
+    pub ahead : (place : ℕ) (tape : List ℕ) (o : ℕ) (c : Command (List ℕ)) (end : ℕ) → next_command key_bytes key_kind counter_kind place tape ≡ found o c end → Ahead place end
     ahead place tape o c end = by (ltb most_tape (length tape)) (eqb place 0) refl refl
       where
         by : (d f : Bool) → ltb most_tape (length tape) ≡ d → eqb place 0 ≡ f →
-            cond d (stopped 19 0) (cond f (first_command key_bytes key_kind counter_kind tape) (command_from key_bytes place tape)) ≡ found o c end → (place < end) × (end ≤ most_tape)
+            cond d (stopped 19 0) (cond f (first_command key_bytes key_kind counter_kind tape) (command_from key_bytes place tape)) ≡ found o c end → Ahead place end
         by true f short is e = cc
         by false true short is e =
             let h = first_fits tape o c end e in
             let none : place ≡ 0 = grind (arith, nat_tests) in
             let long : length tape ≤ most_tape = ltb-false most_tape (length tape) short in
-            (omega (arith, h.0), omega (arith, h.1))
+            (omega (arith, h.0), omega (arith, h.1), λ e'. h.0)
         by false false short is e =
             let h = from_fits place tape o c end e in
             let long : length tape ≤ most_tape = ltb-false most_tape (length tape) short in
-            (h.0, omega (arith, h.1))
+            let some : place ≡ 0 → ⊥ = λ none. grind (arith, nat_tests) in
+            (h.0, omega (arith, h.1), λ none. absurd (some none))

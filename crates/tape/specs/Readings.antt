@@ -5,7 +5,7 @@
 --   placed          a command at an offset, or the refusal there
 --   command_from    the command at a place
 --   first_command   the first command, behind the two bytes of the kinds: a kind byte that differs is refused with 15, one that is missing with 16, each at its own offset
---   next_in         the next command from a place on: 19 at offset 0 where the tape is too long
+--   next_command    the next command from a place on: 19 at offset 0 where the tape is too long
 use Rattle.std.specs.Prelude.{ℕ, ◌+◌, cond, List, [], ◌∷◌, length, drop, Ok, Err, Result, ◌==◌, nat_lt}
 use Rattle.flow.specs.Answers.{Answer, answered, refused}
 use Rattle.flow.specs.Limits.{most_tape}
@@ -43,6 +43,6 @@ module _ (key_bytes : ℕ) where
     first_command (a ∷ b ∷ rest) =
         cond (a == key_kind) (cond (b == counter_kind) (placed 2 (command_at key_bytes rest)) (stopped 15 1)) (stopped 15 0)
 
-    abbrev pub next_in : ℕ → List ℕ → Found
-    next_in place tape =
+    abbrev pub next_command : ℕ → List ℕ → Found
+    next_command place tape =
         cond (nat_lt most_tape (length tape)) (stopped 19 0) (cond (place == 0) (first_command tape) (command_from place tape))

@@ -1,7 +1,7 @@
 // Reading a tape from a place on.
 ghost use Rattle.std.specs.Prelude.{◌≡◌, ◌<◌, ◌≤◌, length, IfOk};
 ghost use Rattle.flow.specs.Limits.{most_tape};
-ghost use Rattle.tape.specs.Readings.{command_from, first_command, found_of, next_in};
+ghost use Rattle.tape.specs.Readings.{command_from, first_command, found_of, next_command};
 
 use crate::command::Command;
 use crate::kind::TapeKind;
@@ -57,7 +57,7 @@ pub fn next_command<K: FlowKey + TapeKind, C: TapeKind>(
     tape: &[u8],
     place: usize,
 ) -> Result<Placed<&[u8]>, Fault>
-    ensures found { found_of (λ key. key.now) result ≡ next_in K.BYTES K.NUMBER C.NUMBER place tape.now }
+    ensures found { found_of (λ key. key.now) result ≡ next_command K.BYTES K.NUMBER C.NUMBER place tape.now }
     ensures ahead { IfOk result (λ p. (place < p.end) × (p.end ≤ length tape.now) × (p.end ≤ most_tape)) }
 {
     if tape.len() > MOST_TAPE {

@@ -1,14 +1,12 @@
 // The command call.
 ghost use Rattle.std.specs.Prelude.{◌≡◌, ℕ, ◌<◌, ◌≤◌, length, take, IfOk, OnErr};
-ghost use Rattle.flow.specs.Answers.{told, refused, answer_map, Unchanged};
+ghost use Rattle.flow.specs.Answers.{told, answered, refused, Unchanged};
 ghost use Rattle.flow.specs.Limits.{least_text, most_tape};
 ghost use Rattle.meter.specs.Holding.{Holds};
-ghost use Rattle.meter.specs.Ledgers.{Ledger};
 ghost use Rattle.sitting.specs.Courses.{accepted};
-ghost use Rattle.sitting.specs.Lines.{over};
 ghost use Rattle.sitting.specs.Markings.{with_ledger, ledger_left, PrintsRight};
-ghost use Rattle.sitting.specs.Sittings.{course_of, lent, turn_at, turn_of};
-ghost use Rattle.sitting.specs.Turns.{outcome_text, table_after, scratch_after, course_left, text_left, table_left, scratch_left};
+ghost use Rattle.sitting.specs.Sittings.{course_of, UnderLedgers, lent, turn_at, turn_of};
+ghost use Rattle.sitting.specs.Turns.{Follows};
 ghost use Rattle.tape.specs.Readings.{placed_found};
 
 use crate::ending::Ending;
@@ -45,16 +43,20 @@ impl<K: FlowKey + TapeKind + Drop, C: FrameCounter + TapeKind> Sitting<K, C> {
         scratch: &mut [u8],
         table: &mut [Record],
     ) -> Result<usize, Refusal>
-        ensures answer { (l : Ledger) → Holds C.meaning (course_of C.meaning self.old).meter l → told result ≡ answer_map (λ t. length (outcome_text t.outcome)) (turn_of C.meaning K.spelled K.BYTES K.NUMBER C.NUMBER self.old tape.now text.old scratch.old table.old) }
-        ensures course { (l : Ledger) → Holds C.meaning (course_of C.meaning self.old).meter l → course_of C.meaning self.new ≡ course_left (turn_of C.meaning K.spelled K.BYTES K.NUMBER C.NUMBER self.old tape.now text.old scratch.old table.old) (course_of C.meaning self.old) }
-        ensures text { (l : Ledger) → Holds C.meaning (course_of C.meaning self.old).meter l → text.new ≡ text_left (turn_of C.meaning K.spelled K.BYTES K.NUMBER C.NUMBER self.old tape.now text.old scratch.old table.old) text.old }
-        ensures table { (l : Ledger) → Holds C.meaning (course_of C.meaning self.old).meter l → table.new ≡ table_left (turn_of C.meaning K.spelled K.BYTES K.NUMBER C.NUMBER self.old tape.now text.old scratch.old table.old) table.old }
-        ensures scratch { (l : Ledger) → Holds C.meaning (course_of C.meaning self.old).meter l → scratch.new ≡ scratch_left (turn_of C.meaning K.spelled K.BYTES K.NUMBER C.NUMBER self.old tape.now text.old scratch.old table.old) scratch.old }
+        ensures turn { let turn = turn_of C.meaning K.spelled K.BYTES K.NUMBER C.NUMBER self.old tape.now text.old scratch.old table.old in
+            UnderLedgers C.meaning self.old (λ l.
+            Follows turn (told result) (course_of C.meaning self.old) (course_of C.meaning self.new) text.old text.new scratch.old scratch.new table.old table.new) }
         ensures unchanged { Unchanged result self.old self.new }
         ensures nothing_touched { OnErr result ((text.new ≡ text.old) × (scratch.new ≡ scratch.old) × (table.new ≡ table.old)) }
-        ensures refusals { (n : ℕ) → turn_of C.meaning K.spelled K.BYTES K.NUMBER C.NUMBER self.old tape.now text.old scratch.old table.old ≡ refused n → told result ≡ refused n }
-        ensures guarantee { (l : Ledger) → Holds C.meaning (course_of C.meaning self.old).meter l → IfOk result (λ n. PrintsRight K.spelled (lent scratch.old table.old) K.BYTES K.NUMBER C.NUMBER tape.now (with_ledger (course_of C.meaning self.old) l) (take n text.new)) }
-        ensures holds { (l : Ledger) → Holds C.meaning (course_of C.meaning self.old).meter l → Holds C.meaning (course_of C.meaning self.new).meter (ledger_left K.spelled (lent scratch.old table.old) K.BYTES K.NUMBER C.NUMBER tape.now (course_of C.meaning self.old) (turn_of C.meaning K.spelled K.BYTES K.NUMBER C.NUMBER self.old tape.now text.old scratch.old table.old) l) }
+        ensures refusals { let turn = turn_of C.meaning K.spelled K.BYTES K.NUMBER C.NUMBER self.old tape.now text.old scratch.old table.old in
+            (n : ℕ) → turn ≡ refused n → told result ≡ refused n }
+        ensures guarantee { UnderLedgers C.meaning self.old (λ l.
+            let course = with_ledger (course_of C.meaning self.old) l in
+            IfOk result (λ n. PrintsRight K.spelled (lent scratch.old table.old) K.BYTES K.NUMBER C.NUMBER tape.now course (take n text.new))) }
+        ensures holds { let course = course_of C.meaning self.old in
+            let turn = turn_of C.meaning K.spelled K.BYTES K.NUMBER C.NUMBER self.old tape.now text.old scratch.old table.old in
+            UnderLedgers C.meaning self.old (λ l.
+            Holds C.meaning (course_of C.meaning self.new).meter (ledger_left K.spelled (lent scratch.old table.old) K.BYTES K.NUMBER C.NUMBER tape.now course turn l)) }
         ensures within { IfOk result (λ n. n ≤ length text.old) }
     {
         if text.len() < LEAST_TEXT {
@@ -84,11 +86,9 @@ impl<K: FlowKey + TapeKind + Drop, C: FrameCounter + TapeKind> Sitting<K, C> {
         requires within { placed.end ≤ most_tape }
         requires room { least_text ≤ length text.old }
         ensures within { result ≤ length text.old }
-        ensures answer { (l : Ledger) → Holds C.meaning (course_of C.meaning self.old).meter l → result ≡ length (outcome_text (turn_at C.meaning K.spelled self.old (placed_found (λ key. key.now) placed.entry) scratch.old table.old).outcome) }
-        ensures course { (l : Ledger) → Holds C.meaning (course_of C.meaning self.old).meter l → course_of C.meaning self.new ≡ (turn_at C.meaning K.spelled self.old (placed_found (λ key. key.now) placed.entry) scratch.old table.old).after }
-        ensures text { (l : Ledger) → Holds C.meaning (course_of C.meaning self.old).meter l → text.new ≡ over (outcome_text (turn_at C.meaning K.spelled self.old (placed_found (λ key. key.now) placed.entry) scratch.old table.old).outcome) text.old }
-        ensures table { (l : Ledger) → Holds C.meaning (course_of C.meaning self.old).meter l → table.new ≡ table_after (turn_at C.meaning K.spelled self.old (placed_found (λ key. key.now) placed.entry) scratch.old table.old).outcome.answer table.old }
-        ensures scratch { (l : Ledger) → Holds C.meaning (course_of C.meaning self.old).meter l → scratch.new ≡ scratch_after (turn_at C.meaning K.spelled self.old (placed_found (λ key. key.now) placed.entry) scratch.old table.old).outcome.answer scratch.old }
+        ensures turn { let turn = turn_at C.meaning K.spelled self.old (placed_found (λ key. key.now) placed.entry) scratch.old table.old in
+            UnderLedgers C.meaning self.old (λ l.
+            Follows (answered turn) (answered result) (course_of C.meaning self.old) (course_of C.meaning self.new) text.old text.new scratch.old scratch.new table.old table.new) }
     {
         let answer = self.obey(placed.command, scratch, table);
         self.progress = self

@@ -8,7 +8,7 @@ ghost use Rattle.meter.specs.Ledgers.{Ledger};
 ghost use Rattle.meter.specs.Meters.{state_of};
 ghost use Rattle.sitting.specs.Courses.{calls, asked, stage_after};
 ghost use Rattle.sitting.specs.Lines.{ListStands};
-ghost use Rattle.sitting.specs.Sittings.{course_of, counted, lent};
+ghost use Rattle.sitting.specs.Sittings.{course_of, UnderLedgers, with_count, lent};
 ghost use Rattle.sitting.specs.Turns.{answer_of, answer_in, meter_after, table_after, scratch_after};
 ghost use Rattle.tape.specs.Commands.{command_map};
 ghost use Rattle.tape.specs.declared.command.Command.TheVariants as command;
@@ -31,9 +31,13 @@ fn take_packet<K: FlowKey + Drop, C: FrameCounter>(
     key: &[u8],
     weight: u32,
 ) -> Result<Reply<usize>, Refusal>
-    ensures answer { (l : Ledger) → Holds C.meaning (state_of C.meaning meter.old) l → told result ≡ counted (answer_of C.meaning (state_of C.meaning meter.old) (command.Packet key.now weight) (answer_map (λ k. calls (call.Packet k weight)) (read_answer (K.spelled key.now)))) }
+    ensures answer { let asks = answer_map (λ k. calls (call.Packet k weight)) (read_answer (K.spelled key.now)) in
+        (l : Ledger) → Holds C.meaning (state_of C.meaning meter.old) l →
+        told result ≡ with_count (answer_of C.meaning (state_of C.meaning meter.old) (command.Packet key.now weight) asks) }
     ensures no_list { (n : ℕ) → IfOk result (λ r. ListStands r n) }
-    ensures state { (l : Ledger) → Holds C.meaning (state_of C.meaning meter.old) l → state_of C.meaning meter.new ≡ meter_after C.meaning (state_of C.meaning meter.old) (answer_map (λ k. calls (call.Packet k weight)) (read_answer (K.spelled key.now))) }
+    ensures state { let asks = answer_map (λ k. calls (call.Packet k weight)) (read_answer (K.spelled key.now)) in
+        (l : Ledger) → Holds C.meaning (state_of C.meaning meter.old) l →
+        state_of C.meaning meter.new ≡ meter_after C.meaning (state_of C.meaning meter.old) asks }
 {
     let key = K::read(key)?;
     meter.packet(&key, weight).map(Reply::Took)
@@ -44,7 +48,8 @@ fn tell_estimate<K: FlowKey + Drop, C: FrameCounter>(
     meter: &Meter<C>,
     key: &[u8],
 ) -> Result<Reply<usize>, Refusal>
-    ensures { told result ≡ counted (answer_of C.meaning (state_of C.meaning meter.now) (command.Estimate key.now) (answer_map (λ k. calls (call.Estimate k)) (read_answer (K.spelled key.now)))) }
+    ensures { let asks = answer_map (λ k. calls (call.Estimate k)) (read_answer (K.spelled key.now)) in
+        told result ≡ with_count (answer_of C.meaning (state_of C.meaning meter.now) (command.Estimate key.now) asks) }
 {
     let key = K::read(key)?;
     meter.estimate(&key).map(Reply::Estimated)
@@ -58,13 +63,21 @@ impl<K: FlowKey + Drop, C: FrameCounter> Sitting<K, C> {
         scratch: &mut [u8],
         table: &mut [Record],
     ) -> Result<Reply<usize>, Refusal>
-        ensures answer { (l : Ledger) → Holds C.meaning (state_of C.meaning self.old.meter) l → told result ≡ counted (answer_in C.meaning K.spelled (course_of C.meaning self.old) (command_map (λ key. key.now) command.entry) (lent scratch.old table.old)) }
-        ensures stage { (l : Ledger) → Holds C.meaning (state_of C.meaning self.old.meter) l → self.new.stage ≡ stage_after self.old.stage (command_map (λ key. key.now) command.entry) (answer_in C.meaning K.spelled (course_of C.meaning self.old) (command_map (λ key. key.now) command.entry) (lent scratch.old table.old)) }
-        ensures meter { (l : Ledger) → Holds C.meaning (state_of C.meaning self.old.meter) l → state_of C.meaning self.new.meter ≡ meter_after C.meaning (state_of C.meaning self.old.meter) (asked K.spelled (lent scratch.old table.old) self.old.stage (command_map (λ key. key.now) command.entry)) }
+        ensures answer { let asks = command_map (λ key. key.now) command.entry in
+            UnderLedgers C.meaning self.old (λ l. told result ≡ with_count (answer_in C.meaning K.spelled (course_of C.meaning self.old) asks (lent scratch.old table.old))) }
+        ensures stage { let asks = command_map (λ key. key.now) command.entry in
+            let answer = answer_in C.meaning K.spelled (course_of C.meaning self.old) asks (lent scratch.old table.old) in
+            UnderLedgers C.meaning self.old (λ l. self.new.stage ≡ stage_after self.old.stage asks answer) }
+        ensures meter { let asks = asked K.spelled (lent scratch.old table.old) self.old.stage (command_map (λ key. key.now) command.entry) in
+            UnderLedgers C.meaning self.old (λ l. state_of C.meaning self.new.meter ≡ meter_after C.meaning (state_of C.meaning self.old.meter) asks) }
         ensures list { IfOk result (λ r. ListStands r (length table.new)) }
         ensures progress { self.new.progress ≡ self.old.progress }
-        ensures table { (l : Ledger) → Holds C.meaning (state_of C.meaning self.old.meter) l → table.new ≡ table_after (answer_in C.meaning K.spelled (course_of C.meaning self.old) (command_map (λ key. key.now) command.entry) (lent scratch.old table.old)) table.old }
-        ensures scratch { (l : Ledger) → Holds C.meaning (state_of C.meaning self.old.meter) l → scratch.new ≡ scratch_after (answer_in C.meaning K.spelled (course_of C.meaning self.old) (command_map (λ key. key.now) command.entry) (lent scratch.old table.old)) scratch.old }
+        ensures table { let asks = command_map (λ key. key.now) command.entry in
+            let answer = answer_in C.meaning K.spelled (course_of C.meaning self.old) asks (lent scratch.old table.old) in
+            UnderLedgers C.meaning self.old (λ l. table.new ≡ table_after answer table.old) }
+        ensures scratch { let asks = command_map (λ key. key.now) command.entry in
+            let answer = answer_in C.meaning K.spelled (course_of C.meaning self.old) asks (lent scratch.old table.old) in
+            UnderLedgers C.meaning self.old (λ l. scratch.new ≡ scratch_after answer scratch.old) }
     {
         match (&mut self.stage, command) {
             (Stage::Unplanned, Command::Plan(plan)) => {

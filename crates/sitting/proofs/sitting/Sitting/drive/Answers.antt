@@ -13,8 +13,7 @@ returns-in_default g c = λ l h.
     let e = c.command.ensures in
     drives _ first later refl
     (way_over m g.K.FlowKey.spelled g.K.FlowKey.BYTES g.K.TapeKind.NUMBER g.C.TapeKind.NUMBER c.args.tape.now first (most_turns - c.loop.counter) (most_turns - (c.loop.counter + 1)) (omega arith)
-    now later w c.loop.auto.text c.loop.auto.scratch c.loop.auto.table c.command.result (e.answer w.ledger w.holds)
-    (record { course_is = e.course w.ledger w.holds; text_is = e.text w.ledger w.holds; scratch_is = e.scratch w.ledger w.holds; table_is = e.table w.ledger w.holds })
+    now later w c.loop.auto.text c.loop.auto.scratch c.loop.auto.table c.command.result (e.turn w.ledger w.holds)
     c.in_default.field-0 c.in_default.is refl)
 
 pub loop-preserved : goal.loop-preserved
@@ -26,8 +25,7 @@ loop-preserved g c = λ l h.
     let w = c.loop.invariant l h in
     let e = c.command.ensures in
     way_goes_on m g.K.FlowKey.spelled g.K.FlowKey.BYTES g.K.TapeKind.NUMBER g.C.TapeKind.NUMBER c.args.tape.now first (most_turns - c.loop.counter) (most_turns - (c.loop.counter + 1)) (omega arith)
-    now later w c.loop.auto.text c.loop.auto.scratch c.loop.auto.table c.command.result (e.answer w.ledger w.holds)
-    (record { course_is = e.course w.ledger w.holds; text_is = e.text w.ledger w.holds; scratch_is = e.scratch w.ledger w.holds; table_is = e.table w.ledger w.holds })
+    now later w c.loop.auto.text c.loop.auto.scratch c.loop.auto.table c.command.result (e.turn w.ledger w.holds)
     c.in-Ok.bytes c.in-Ok.is c.in_ok-extend_from_slice.ensures.items _ (e.holds w.ledger w.holds)
 
 pub returns : goal.returns
