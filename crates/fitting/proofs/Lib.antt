@@ -1,2 +1,2 @@
 pub mod Firsts
-pub mod Same
+pub mod Steps
