@@ -1,6 +1,6 @@
 -- An add as a whole: the entries, and the estimates that they lead to.
 use Rattle.std.specs.Prelude.{◌≡◌, ℕ, ◌+◌, ◌*◌, ◌<◌, ◌≤◌, max, Bool, true, false, cond, ◌⊎◌, List, length, position, Some, None, unwrap_or, slice_index_or, slice_set, ◌==◌}
-use Rattle.std.proofs.Common.{ap, sym, subst, ◌∙◌, inl, inr, arith}
+use Rattle.std.proofs.Common.{ap, sym, subst, inl, inr, arith}
 use Rattle.std.proofs.lemmas.Bool.{cases_Bool, cases_lt}
 use Rattle.std.proofs.lemmas.Bool.Decides.{nat_tests}
 use Rattle.std.specs.List.{list_any, position_or_len}
@@ -9,7 +9,7 @@ use Rattle.flow.specs.Meanings.{Rises}
 use Rattle.flow.specs.declared.code.Code.{Code}
 use Rattle.fitting.specs.declared.entry.Entry.{Entry}
 use Rattle.fitting.specs.Entries.{vacant, counts, holds, count_of, total, least, takes, taker, credited, added, apart}
-use Rattle.fitting.specs.Credits.{Above, first_place, credited_at, length-credited, total-credited, above_total, above_held, above_least, least_met, least-credited, held_counts, count_of-own, count_of-own_other, apart-own, count_of-given, count_of-given_other, apart-given}
+use Rattle.fitting.specs.Credits.{first_place, credited_at, length-credited, total-credited, above_total, above_held, above_least, least_met, least-credited, held_counts, count_of-own, count_of-own_other, apart-own, count_of-given, count_of-given_other, apart-given}
 
 module _ (es : List Entry) (k : Code) (some : 0 < length es) where
   -- what holds of both ways holds of an add

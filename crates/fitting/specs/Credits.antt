@@ -9,7 +9,7 @@ use Rattle.flow.specs.Codes.{same}
 use Rattle.flow.proofs.Codes.{same_refl, same_true, same_sym}
 use Rattle.flow.specs.declared.code.Code.{Code}
 use Rattle.fitting.specs.declared.entry.Entry.{Entry}
-use Rattle.fitting.specs.Entries.{vacant, counts, holds, count_of, total, least, takes, credited, added, apart}
+use Rattle.fitting.specs.Entries.{vacant, counts, holds, count_of, total, least, credited, apart}
 
 -- the first entry that passes a test is the code's, whatever the test
 module _ (p : Entry → Bool) (k : Code) (w : ℕ) where

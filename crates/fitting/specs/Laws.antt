@@ -1,6 +1,6 @@
 -- A Space-Saving counter keeps the laws of a frame counter.
-use Rattle.std.specs.Prelude.{◌≡◌, ℕ, zero, suc, ◌+◌, ◌*◌, ◌<◌, ◌≤◌, max, true, List, [], ◌∷◌, length, replicate, ◌≢◌, refl}
-use Rattle.std.proofs.Common.{sym, ap, ◌∙◌, subst, inl, inr, arith, mul-le-mul_left}
+use Rattle.std.specs.Prelude.{◌≡◌, ℕ, zero, suc, ◌+◌, ◌*◌, ◌<◌, ◌≤◌, max, true, List, [], ◌∷◌, length, replicate, refl}
+use Rattle.std.proofs.Common.{subst, inl, inr, arith, mul-le-mul_left}
 use Rattle.std.specs.List.{AllByRecursion}
 use Rattle.std.proofs.lemmas.List.{length-replicate}
 use Rattle.std.proofs.lemmas.Bool.{cases_lt}
@@ -11,7 +11,7 @@ use Rattle.flow.proofs.Codes.{same_apart}
 use Rattle.flow.proofs.Sums.{Shown, sum_held}
 use Rattle.flow.specs.declared.code.Code.{Code}
 use Rattle.fitting.specs.declared.entry.Entry.{Entry}
-use Rattle.fitting.specs.Entries.{vacant, holds, count_of, total, least, taker, added, apart}
+use Rattle.fitting.specs.Entries.{vacant, count_of, total, least, apart}
 use Rattle.fitting.specs.Credits.{above_total, above_least, held_counts, count_of_within}
 use Rattle.fitting.specs.Adds.{taker_within, length-added, total-added, apart-added, own_estimate, other_estimate}
 use Rattle.fitting.specs.Shares.{holding}

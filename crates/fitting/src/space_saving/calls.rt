@@ -36,13 +36,6 @@ impl SpaceSaving {
             entries: entries::vacant(sizes.places),
         }
     }
-
-    // The entries, as many as there are places.
-    pub fn entries(&self) -> &[Entry]
-        ensures { result.now ≡ (space_meaning.model self.now).entries }
-    {
-        self.entries.as_slice()
-    }
 }
 
 impl FrameCounter for SpaceSaving {

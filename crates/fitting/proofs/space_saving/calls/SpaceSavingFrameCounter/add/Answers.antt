@@ -1,4 +1,4 @@
-use Rattle.std.proofs.Common.{◌≡◌, ℕ, ◌+◌, length, sym, ap, ◌∙◌, arith}
+use Rattle.std.proofs.Common.{ℕ, ◌+◌, length, sym, ap, ◌∙◌, arith}
 use Rattle.flow.specs.Answers.{Answer, answered}
 use Rattle.fitting.specs.Entries.{taker, total, apart}
 use Rattle.fitting.specs.Adds.{taker_within, length-added, total-added, apart-added}
