@@ -1,19 +1,19 @@
 -- An add as a whole: the entries, and the estimates that they lead to.
-use Rattle.std.specs.Prelude.{◌≡◌, ℕ, ◌+◌, ◌*◌, ◌<◌, ◌≤◌, max, Bool, true, false, cond, ◌⊎◌, List, length, position, Some, None, unwrap_or, slice_index_or, slice_set, ◌==◌}
+use Rattle.std.specs.Prelude.{◌≡◌, ℕ, ◌+◌, ◌*◌, ◌<◌, ◌≤◌, max, Bool, true, false, cond, ◌⊎◌, List, length, ◌==◌}
 use Rattle.std.proofs.Common.{ap, sym, subst, inl, inr, arith}
 use Rattle.std.proofs.lemmas.Bool.{cases_Bool, cases_lt}
 use Rattle.std.proofs.lemmas.Bool.Decides.{nat_tests}
-use Rattle.std.specs.List.{list_any, position_or_len}
+use Rattle.std.specs.List.{list_any}
 use Rattle.flow.specs.Codes.{same}
 use Rattle.flow.specs.Meanings.{Rises}
 use Rattle.flow.specs.declared.code.Code.{Code}
 use Rattle.fitting.specs.declared.entry.Entry.{Entry}
-use Rattle.fitting.specs.Entries.{vacant, counts, holds, count_of, total, least, takes, taker, credited, added, apart}
-use Rattle.fitting.specs.Credits.{first_place, credited_at, length-credited, total-credited, above_total, above_held, above_least, least_met, least-credited, held_counts, count_of-own, count_of-own_other, apart-own, count_of-given, count_of-given_other, apart-given}
+use Rattle.fitting.specs.Entries.{counts, holds, count_of, total, least, takes, taker, credited, added, apart}
+use Rattle.fitting.specs.Credits.{first_place, length-credited, total-credited, above_total, above_held, above_least, least_met, least-credited, held_counts, count_of-own, count_of-own_other, apart-own, count_of-given, count_of-given_other, apart-given}
 
 module _ (es : List Entry) (k : Code) (some : 0 < length es) where
   -- what holds of both ways holds of an add
-  by_way : (P : (Entry → Bool) → Type 0) → (holds k es ≡ true → P (counts k)) → (holds k es ≡ false → P (λ e. e.count == least es)) → P (takes k es)
+  pub by_way : (P : (Entry → Bool) → Type 0) → (holds k es ≡ true → P (counts k)) → (holds k es ≡ false → P (λ e. e.count == least es)) → P (takes k es)
   by_way P own given =
       elim (cases_Bool (holds k es)) [
         | inl h ↦ subst P (λ i e. cond (sym h i) (counts k e) (e.count == least es)) (own h)
@@ -25,22 +25,6 @@ module _ (es : List Entry) (k : Code) (some : 0 < length es) where
 
   pub taker_within : taker k es < length es
   taker_within = grind (arith, nat_tests, some_takes, first_place (takes k es) es)
-
-  -- where the search for the code finds an entry, that one takes the weight, and else the first with the least count
-  pub taker_own : (i : ℕ) → position (counts k) es ≡ Some i → i ≡ taker k es
-  taker_own i h =
-      let found = first_place (counts k) es in
-      by_way (λ p. i ≡ position_or_len p es) (λ q. grind (arith, nat_tests)) (λ q. grind (arith, nat_tests))
-
-  pub taker_given : position (counts k) es ≡ None → unwrap_or (position (λ e. e.count == least es) es) 0 ≡ taker k es
-  taker_given h =
-      let found = first_place (counts k) es in
-      let least_found = first_place (λ e. e.count == least es) es in
-      let met = least_met es some in
-      by_way (λ p. unwrap_or (position (λ e. e.count == least es) es) 0 ≡ position_or_len p es) (λ q. grind (arith, nat_tests)) (λ q. grind (arith, nat_tests))
-
-  pub added_at : (w : ℕ) → added es k w ≡ slice_set es (taker k es) (record { code = k; count = (slice_index_or es (taker k es) vacant).count + w })
-  added_at w = credited_at (takes k es) k w es some_takes
 
 module _ (es : List Entry) (k : Code) (w : ℕ) (some : 0 < length es) where
   pub length-added : length (added es k w) ≡ length es

@@ -1,15 +1,14 @@
 -- What an add does to the entries: their number, their counts, and which codes they count.
-use Rattle.std.specs.Prelude.{◌≡◌, ℕ, zero, suc, ◌+◌, ◌*◌, ◌<◌, ◌≤◌, ◌⊎◌, min, Bool, true, false, cond, List, [], ◌∷◌, map, length, ◌==◌, nat_lt, slice_index_or, slice_set, refl}
+use Rattle.std.specs.Prelude.{◌≡◌, ℕ, ◌+◌, ◌*◌, ◌<◌, ◌≤◌, ◌⊎◌, min, Bool, true, false, cond, List, [], ◌∷◌, map, length, ◌==◌, nat_lt, refl}
 use Rattle.std.proofs.Common.{ap, inl, inr, arith, suc-mul}
 use Rattle.std.proofs.lemmas.Bool.{cases_lt}
 use Rattle.std.proofs.lemmas.Bool.Decides.{nat_tests}
-use Rattle.std.specs.List.{fold, find, list_any, position_or_len}
-use Rattle.std.specs.Option.{option_map_or}
+use Rattle.std.specs.List.{fold, list_any, position_or_len}
 use Rattle.flow.specs.Codes.{same}
 use Rattle.flow.proofs.Codes.{same_refl, same_true, same_sym}
 use Rattle.flow.specs.declared.code.Code.{Code}
 use Rattle.fitting.specs.declared.entry.Entry.{Entry}
-use Rattle.fitting.specs.Entries.{vacant, counts, holds, count_of, total, least, credited, apart}
+use Rattle.fitting.specs.Entries.{counts, holds, count_of, total, least, credited, apart}
 
 -- the first entry that passes a test is the code's, whatever the test
 module _ (p : Entry → Bool) (k : Code) (w : ℕ) where
@@ -25,11 +24,6 @@ module _ (p : Entry → Bool) (k : Code) (w : ℕ) where
 pub first_place : (p : Entry → Bool) (es : List Entry) → nat_lt (position_or_len p es) (length es) ≡ list_any p es
 first_place p [] = refl
 first_place p (e ∷ es) = grind (arith, nat_tests, first_place p es)
-
-pub credited_at : (p : Entry → Bool) (k : Code) (w : ℕ) (es : List Entry) → list_any p es ≡ true →
-    credited p k w es ≡ slice_set es (position_or_len p es) (record { code = k; count = (slice_index_or es (position_or_len p es) vacant).count + w })
-credited_at p k w [] h = grind arith
-credited_at p k w (e ∷ es) h = grind (arith, credited_at p k w es)
 
 -- each count is at least m
 abbrev pub Above : ℕ → List Entry → Type 0
@@ -83,6 +77,9 @@ met a (e ∷ es) =
 pub above_least : (es : List Entry) → Above (least es) es
 above_least es = above_least_with (total es) es
 
+pub least_total : (es : List Entry) → least es ≤ total es
+least_total es = least_within (total es) es
+
 pub least_met : (es : List Entry) → 0 < length es → list_any (λ e. e.count == least es) es ≡ true
 least_met [] s = absurd (omega (arith, s))
 least_met (e ∷ es) s =
@@ -93,7 +90,7 @@ least_met (e ∷ es) s =
 
 pub least-credited : (p : Entry → Bool) (k : Code) (w : ℕ) (es : List Entry) → list_any p es ≡ true → least es ≤ least (credited p k w es)
 least-credited p k w es h =
-    least_above (least es) (total (credited p k w es)) (credited p k w es) (omega (arith, total-credited p k w es h, least_within (total es) es)) (above-credited p k w (least es) es (above_least es))
+    least_above (least es) (total (credited p k w es)) (credited p k w es) (omega (arith, total-credited p k w es h, least_total es)) (above-credited p k w (least es) es (above_least es))
 
 -- an entry counts a code exactly where its count is above 0
 pub held_counts : (k : Code) (es : List Entry) → nat_lt 0 (count_of k es) ≡ holds k es
@@ -107,19 +104,9 @@ alone j e es c t =
     let none : holds e.code es ≡ false = grind (arith, nat_tests) in
     grind (arith, nat_tests, held_counts j es, ap (λ (i : Code). holds i es) one)
 
-pub count_at_within : (es : List Entry) (i : ℕ) → (slice_index_or es i vacant).count ≤ total es
-count_at_within [] i = grind arith
-count_at_within (e ∷ es) zero = grind arith
-count_at_within (e ∷ es) (suc i) = grind (arith, count_at_within es i)
-
 pub count_of_within : (k : Code) (es : List Entry) → count_of k es ≤ total es
 count_of_within k [] = omega arith
 count_of_within k (e ∷ es) = grind (arith, count_of_within k es)
-
--- the search for the code's own entry
-pub count_of_find : (k : Code) (es : List Entry) → option_map_or (λ x. x.count) (find (counts k) es) 0 ≡ count_of k es
-count_of_find k [] = refl
-count_of_find k (e ∷ es) = grind (arith, count_of_find k es)
 
 -- a code's own entry takes the weight
 pub count_of-own : (k : Code) (w : ℕ) (es : List Entry) → holds k es ≡ true → count_of k (credited (counts k) k w es) ≡ count_of k es + w

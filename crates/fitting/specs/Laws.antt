@@ -10,9 +10,8 @@ use Rattle.flow.specs.Meanings.{Fresh, Opens, Flushes, Grown, Adds, Heavy, Disti
 use Rattle.flow.proofs.Codes.{same_apart}
 use Rattle.flow.proofs.Sums.{Shown, sum_held}
 use Rattle.flow.specs.declared.code.Code.{Code}
-use Rattle.fitting.specs.declared.entry.Entry.{Entry}
 use Rattle.fitting.specs.Entries.{vacant, count_of, total, least, apart}
-use Rattle.fitting.specs.Credits.{above_total, above_least, held_counts, count_of_within}
+use Rattle.fitting.specs.Credits.{above_total, above_least, held_counts, count_of_within, least_total}
 use Rattle.fitting.specs.Adds.{taker_within, length-added, total-added, apart-added, own_estimate, other_estimate}
 use Rattle.fitting.specs.Shares.{holding}
 use Rattle.fitting.specs.SpaceSaving.{SpaceModel, SpaceSound, space_opened, space_more, space_meaning}
@@ -26,13 +25,6 @@ pub apart_vacant : (n : ℕ) → apart (replicate n vacant) ≡ true
 apart_vacant zero = refl
 apart_vacant (suc n) = apart_vacant n
 
-least_within : (es : List Entry) → 0 < length es → least es ≤ total es
-least_within [] s = absurd (omega (arith, s))
-least_within (e ∷ es) s = omega (arith, (above_least (e ∷ es)).0)
-
-pub estimate_within : (k : Code) (es : List Entry) → 0 < length es → max (count_of k es) (least es) ≤ total es
-estimate_within k es s = omega (arith, count_of_within k es, least_within es s)
-
 opened_fresh : (n : ℕ) → 0 < n → Fresh space_meaning n 1 1 (space_opened n)
 opened_fresh n p =
     let size = length-replicate n vacant in
@@ -44,7 +36,7 @@ opened_fresh n p =
       greatest_is = refl;
       packets_is = refl;
       volume_is = total_vacant n;
-      estimates_are = λ k. omega (arith, estimate_within k (replicate n vacant) some, total_vacant n);
+      estimates_are = λ k. omega (arith, count_of_within k (replicate n vacant), least_total (replicate n vacant), total_vacant n);
     }
 
 -- an add that is not refused

@@ -81,7 +81,6 @@ pub(crate) fn add(entries: &mut [Entry], volume: u64, code: Code, weight: u64) -
     ensures place { result ≡ taker code entries.old }
 {
     let at = taker(entries, volume, code);
-    let count = entries[at].count + weight;
-    entries[at] = Entry { code, count };
+    entries[at] = entries[at].credited(code, weight);
     at
 }

@@ -1,5 +1,5 @@
 // An entry of a Space-Saving counter.
-ghost use Rattle.std.specs.Prelude.{◌≡◌};
+ghost use Rattle.std.specs.Prelude.{◌≡◌, ◌+◌, ◌^◌, ◌<◌};
 ghost use Rattle.fitting.specs.Entries.{counts};
 
 use flow::code::Code;
@@ -23,5 +23,16 @@ impl Entry {
         ensures { result ≡ counts code self }
     {
         self.count > 0 && code == self.code
+    }
+
+    // The entry as this code's, with the weight on top of what it has counted.
+    pub(crate) fn credited(self, code: Code, weight: u64) -> Entry
+        requires { self.count + weight < 2 ^ 64 }
+        ensures { result ≡ record { code = code; count = self.count + weight } }
+    {
+        Entry {
+            code,
+            count: self.count + weight,
+        }
     }
 }

@@ -1,7 +1,7 @@
 use Rattle.std.proofs.Common.{◌≡◌, ap, ◌∙◌, rules, Option}
 use Rattle.std.specs.Option.{option_map_or}
 use Rattle.fitting.specs.declared.entry.Entry.{Entry}
-use Rattle.fitting.specs.Credits.{count_of_find}
+use Rattle.fitting.proofs.Searches.{count_of_find}
 use Rattle.fitting.proofs.entries.count_of.Goals as goal
 
 pub returns : goal.returns

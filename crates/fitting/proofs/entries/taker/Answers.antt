@@ -1,7 +1,7 @@
 use Rattle.std.proofs.Common.{Option, unwrap_or, sym, ap, ◌∙◌}
 use Rattle.std.specs.List.{position}
 use Rattle.std.specs.Bool.{◌==◌}
-use Rattle.fitting.specs.Adds.{taker_own, taker_given}
+use Rattle.fitting.proofs.Searches.{taker_own, taker_given}
 use Rattle.fitting.proofs.entries.taker.Goals as goal
 
 pub returns-in-Some : goal.returns-in-Some

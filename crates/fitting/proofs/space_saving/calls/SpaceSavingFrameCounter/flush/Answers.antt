@@ -1,16 +1,16 @@
-use Rattle.std.proofs.Common.{◌≡◌, List, length, replicate, sym, ap, ◌∙◌, rules, arith}
+use Rattle.std.proofs.Common.{◌≡◌, List, length, drop, replicate, sym, ap, ◌∙◌, rules, arith}
 use Rattle.std.specs.List.{refill}
-use Rattle.std.proofs.lemmas.List.{length-replicate}
+use Rattle.std.proofs.lemmas.List.{take_at, length-replicate}
 use Rattle.fitting.specs.declared.entry.Entry.{Entry}
 use Rattle.fitting.specs.Entries.{vacant}
-use Rattle.fitting.proofs.Steps.{vacated, written}
+use Rattle.fitting.proofs.Steps.{vacated}
 use Rattle.fitting.proofs.space_saving.calls.SpaceSavingFrameCounter.flush.Goals as goal
 
 -- the entries that a fill of all of them leaves
 filled : (now before after : List Entry) → now ≡ before → after ≡ replicate (length now) vacant → refill (length before) before after ≡ replicate (length before) vacant
 filled now before after was e =
     let all = e ∙ ap (λ (es : List Entry). replicate (length es) vacant) was in
-    written before after (ap length all ∙ length-replicate (length before) vacant) ∙ all
+    take_at after (drop (length after) before) (length before) (ap length all ∙ length-replicate (length before) vacant) ∙ all
 
 pub invariant_of-self : goal.invariant_of-self
 invariant_of-self c =
