@@ -1,2 +1,3 @@
 pub mod Firsts
-pub mod Same
+pub mod Searches
+pub mod Steps

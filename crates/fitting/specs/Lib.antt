@@ -1,3 +1,8 @@
 pub mod Firsts
-pub mod Peaks
-pub mod Carried
+pub mod Addresses
+pub mod Entries
+pub mod Credits
+pub mod Adds
+pub mod SpaceSaving
+pub mod Shares
+pub mod Laws
