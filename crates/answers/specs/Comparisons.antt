@@ -5,6 +5,7 @@
 --   word           the word for that
 --   verdict_text   a verdict in words
 --   line           a comparison in words
+--   runs           what is run, line by line
 --   sheet          what the sheets say, line by line
 use Rattle.std.specs.Prelude.{ℕ, Bool, true, false, cond, List, [], ◌∷◌, ◌++◌, ◌==◌, codes}
 use Rattle.std.specs.Fmt.{decimal}
@@ -35,6 +36,9 @@ verdict_text (Refused n) = codes "refused with " ++ decimal n
 
 abbrev pub line : Comparison → List ℕ
 line c = c.run.now ++ codes ": " ++ verdict_text c.answered ++ codes ", the sheet says " ++ verdict_text c.says ++ codes ": " ++ word c
+
+abbrev pub runs : List (List ℕ)
+runs = codes "W 10 with k 4" ∷ codes "weight 10" ∷ codes "weight 11" ∷ codes "weight 0" ∷ codes "prefix 10.0.0.1/8" ∷ []
 
 abbrev pub sheet : List Verdict
 sheet = Refused 7 ∷ Accepted ∷ Refused 10 ∷ Refused 9 ∷ Refused 14 ∷ []

@@ -7,7 +7,7 @@ use flow::refusal::Refusal;
 use std::fmt;
 
 // Whether a call was accepted, or the number that it was refused with.
-#[derive(Debug, Clone, Copy, PartialEq, Eq)]
+#[derive(Clone, Copy, PartialEq, Eq)]
 pub enum Verdict {
     Accepted,
     Refused(u8),
@@ -37,7 +37,7 @@ impl fmt::Display for Verdict {
 }
 
 // A line of a sheet: what was run, what the sheet says, and what was answered.
-#[derive(Debug, Clone, Copy, PartialEq, Eq)]
+#[derive(Clone, Copy)]
 pub struct Comparison {
     pub run: &'static str,
     pub says: Verdict,

@@ -2,7 +2,7 @@
 #![tactic(auto)]
 
 ghost use Rattle.std.specs.Prelude.{◌≡◌, map, count_by};
-ghost use Rattle.answers.specs.Comparisons.{agrees, sheet};
+ghost use Rattle.answers.specs.Comparisons.{agrees, runs, sheet};
 ghost use Rattle.answers.specs.declared.comparison.Comparison.{Comparison as Compared};
 
 mod calls;
@@ -17,6 +17,7 @@ use sheets::metering::PLAN;
 
 // The lines of the sheets, each run.
 fn comparisons() -> [Comparison; 5]
+    ensures runs { map (λ (c : Compared). c.run.now) result ≡ runs }
     ensures says { map (λ (c : Compared). c.says) result ≡ sheet }
     ensures answered { map (λ (c : Compared). c.answered) result ≡ sheet }
 {

@@ -1,19 +1,16 @@
 // Meters a made stream of packets, and prints what was done.
 #![tactic(auto)]
 
-mod arguments;
-mod generator;
-mod run;
-mod stream;
+mod show;
 
-use crate::arguments::Arguments;
-use crate::run::perform_and_show;
+use crate::show::perform_and_show;
 use inputs::kind::CounterKind;
 use meter::meter::Meter;
 use semi::SemiOrdered;
 use shared::SharedDeduction;
 use std::alloc::AllocError;
 use std::{env, io};
+use streams::arguments::Arguments;
 
 // The bytes that a meter stays below, whatever its window.
 const METER_BYTES: usize = 32 * 1024;

@@ -8,7 +8,7 @@ use std::error::Error;
 use std::fmt;
 
 // A line that cannot be read, for a reason of the program's own, or whose call is refused.
-#[derive(Debug, Clone, Copy, PartialEq, Eq)]
+#[derive(Debug, Clone, Copy)]
 pub enum Failure<U> {
     Unread(U),
     Refused(Refusal),

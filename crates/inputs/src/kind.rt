@@ -5,7 +5,7 @@ ghost use Rattle.inputs.specs.Kinds.{kind_text, KindRead};
 use std::fmt;
 
 // A kind of counter.
-#[derive(Debug, Clone, Copy, PartialEq, Eq)]
+#[derive(Clone, Copy)]
 pub enum CounterKind {
     SemiOrdered,
     SharedDeduction,

@@ -13,9 +13,11 @@
 --   first        the first word of a line, empty where there is none
 --   second       the second
 --   third        the third
---   small        a number, or the greatest of 32 bits where it is larger
+--   capped       a number, or the greatest of so many bits where it is larger
+--   Writes       a word of digits writes a number, cut to so many bits
 use Rattle.std.specs.Prelude.{◌≡◌, ◌≢◌, ℕ, ◌+◌, ◌-◌, ◌^◌, min, Bool, not, ◌||◌, List, [], take, drop, Option, Some, None, ◌==◌}
 use Rattle.std.specs.List.{prefix_len}
+use Rattle.std.specs.Str.Parse.{digits_value, IsNumeral}
 
 abbrev pub is_space : ℕ → Bool
 is_space b = b == 32 || (b == 9 || b == 13)
@@ -42,7 +44,6 @@ abbrev pub TakesLine : List ℕ → Option (List ℕ) → List ℕ → Type 0
 TakesLine text None rest = (text ≡ []) × (rest ≡ [])
 TakesLine text (Some line) rest = (text ≢ []) × (line ≡ line_of text) × (rest ≡ after_line text)
 
--- the text without the spaces in front
 abbrev pub unspaced : List ℕ → List ℕ
 unspaced bs = drop (front is_space bs) bs
 
@@ -61,5 +62,8 @@ second line = word_of (after_word line)
 abbrev pub third : List ℕ → List ℕ
 third line = word_of (after_word (after_word line))
 
-abbrev pub small : ℕ → ℕ
-small n = min n (2 ^ 32 - 1)
+abbrev pub capped : ℕ → ℕ → ℕ
+capped bits n = min n (2 ^ bits - 1)
+
+abbrev pub Writes : ℕ → List ℕ → ℕ → Type 0
+Writes bits word n = IsNumeral 10 word × (n ≡ capped bits (digits_value 10 word))

@@ -1,11 +1,11 @@
 // Lines, words and numbers of a text input.
 #![tactic(auto)]
 
-ghost use Rattle.std.specs.Prelude.{◌≡◌, ℕ, Bool, ◌+◌, take, drop, ◌-◌, ◌*◌, ◌^◌, [], length, min, MatchBool, MatchOption, ◌≢◌};
+ghost use Rattle.std.specs.Prelude.{◌≡◌, ℕ, Bool, ◌+◌, take, drop, ◌*◌, [], length, MatchBool, MatchOption, ◌≢◌};
 ghost use Rattle.std.specs.Iterator.{at_most};
 ghost use Rattle.std.specs.Option.{option_copied};
-ghost use Rattle.std.specs.Str.Parse.{digits_value, IsNumeral};
-ghost use Rattle.text.specs.Reading.{is_space, in_line, Tells, front, line_of, after_line, TakesLine, word_of, after_word, small};
+ghost use Rattle.std.specs.Str.Parse.{IsNumeral};
+ghost use Rattle.text.specs.Reading.{is_space, in_line, Tells, front, line_of, after_line, TakesLine, word_of, after_word, capped, Writes};
 
 const NEWLINE: u8 = b'\n';
 
@@ -45,7 +45,7 @@ pub fn next_line(text: &[u8]) -> (&[u8], &[u8])
 }
 
 // The lines of a text, from the first to the last. An empty text has none.
-#[derive(Debug, Clone, Copy)]
+#[derive(Clone, Copy)]
 pub struct Lines<'a> {
     rest: &'a [u8],
 }
@@ -94,14 +94,14 @@ pub fn is_blank(line: &[u8]) -> bool
 
 // The number with one more digit behind it, or the greatest of its type where that is larger.
 fn with_digit(n: u64, digit: u8) -> u64
-    ensures { result ≡ min (min (n * 10) (2 ^ 64 - 1) + digit) (2 ^ 64 - 1) }
+    ensures { result ≡ capped 64 (capped 64 (n * 10) + digit) }
 {
     n.saturating_mul(10).saturating_add(u64::from(digit))
 }
 
 // The number that a word of digits writes, or the greatest of its type where it is larger. None for any other word.
 pub fn number(word: &[u8]) -> Option<u64>
-    ensures { MatchOption result (IsNumeral 10 word.now → ⊥) (λ n. IsNumeral 10 word.now × (n ≡ min (digits_value 10 word.now) (2 ^ 64 - 1))) }
+    ensures { MatchOption result (IsNumeral 10 word.now → ⊥) (λ n. Writes 64 word.now n) }
 {
     if word.is_empty() {
         return None;
@@ -119,7 +119,7 @@ pub fn number(word: &[u8]) -> Option<u64>
 
 // The number that a word of digits writes, or the greatest of 32 bits where it is larger. None for any other word.
 pub fn small_number(word: &[u8]) -> Option<u32>
-    ensures { MatchOption result (IsNumeral 10 word.now → ⊥) (λ n. IsNumeral 10 word.now × (n ≡ small (digits_value 10 word.now))) }
+    ensures { MatchOption result (IsNumeral 10 word.now → ⊥) (λ n. Writes 32 word.now n) }
 {
     let n = number(word)?;
     Some(u32::try_from(n).unwrap_or(u32::MAX))

@@ -1,20 +1,12 @@
 // Meters the packet logs on standard input, and prints what was performed.
 #![tactic(auto)]
 
-mod heading;
-mod interval;
-mod line;
-mod log;
 mod report;
-#[cfg(test)]
-mod tests;
-mod wording;
-mod written;
 
-use crate::heading::{Heading, KeyKind};
 use crate::report::show_log;
 use flow::account::Account;
 use flow::prefix::Prefix;
+use logs::heading::{Heading, KeyKind};
 use std::io::Read;
 use text::{Lines, next_line};
 

@@ -1,12 +1,12 @@
 // What is printed of a log.
-use crate::heading::{Asks, KeyKind};
-use crate::interval::Interval;
-use crate::line::Unread;
-use crate::log::{Note, meter_log};
-use crate::wording::{Asked, Replied};
-use crate::written::{Written, WrittenKey};
 use frame::layout::Layout;
 use inputs::failure::Failure;
+use logs::heading::{Asks, KeyKind};
+use logs::interval::Interval;
+use logs::line::Unread;
+use logs::log::{Note, meter_log};
+use logs::wording::{Asked, Replied};
+use logs::written::{Written, WrittenKey};
 use meter::day::{Answered, Call, Reply};
 use meter::record::Record;
 use std::io;
@@ -52,7 +52,7 @@ pub(crate) fn show_log<K: WrittenKey>(
 fn show_title(rt: &HostRuntime, keys: KeyKind, number: u64, asks: Option<Asks>) -> io::Result<()> {
     let Some(Asks { counter, level, .. }) = asks else {
         println!(rt; "Packet log: {keys} keys, no plan\n")?;
-        return show_failure(rt, number, Failure::from(Unread::Heading));
+        return show_failure(rt, number, Failure::Unread(Unread::Heading));
     };
     println!(rt; "Packet log: {keys} keys, {counter} counter, level {level}\n")
 }
@@ -91,7 +91,7 @@ fn show_call<K: WrittenKey>(
             }
             Ok(())
         }
-        Err(refusal) => Ok(show_failure(rt, number, Failure::from(*refusal))?),
+        Err(refusal) => Ok(show_failure(rt, number, Failure::Refused(*refusal))?),
     }
 }
 
@@ -122,7 +122,7 @@ fn show_heavy<K: WrittenKey>(
             Ok(())
         }
         Err(refusal) => {
-            let failure = Failure::<Unread>::from(*refusal);
+            let failure: Failure<Unread> = Failure::Refused(*refusal);
             println!(rt; "\nHeavy flows at the end. {failure}")?;
             Ok(())
         }

@@ -1,19 +1,16 @@
 // Prints worked sheets of the packets on standard input.
 #![tactic(auto)]
 
-mod division;
-mod line;
 mod semi_ordered;
 mod shared_deduction;
 mod sheet;
-mod totals;
 mod worked;
 
-use crate::line::Heading;
 use crate::sheet::AnySheet;
 use std::io;
 use std::io::Read;
 use text::{Lines, next_line};
+use workings::line::Heading;
 
 // Works each line. A heading ends the sheet before it and begins its own.
 // The first line is always a heading, even where it is empty or names no kind.

@@ -1,56 +1,16 @@
 // The working of an add to a semi-ordered counter.
-ghost use Rattle.std.specs.Prelude.{◌≡◌, Some};
-ghost use Rattle.semi.specs.Semi.{semi_meaning};
-ghost use Rattle.worksheet.specs.Workings.{way_of, way_text};
-
-use crate::division::Division;
-use crate::line::Packet;
 use crate::worked::Worked;
 use flow::code::Code;
 use flow::counter::FrameCounter;
 use semi::{Entry, SemiOrdered};
 use std::alloc::AllocError;
-use std::{fmt, io};
-
-// How a code comes to its entry. Its rules have nothing in common with those of the other kind.
-#[derive(Debug, Clone, Copy, PartialEq, Eq)]
-pub enum Way {
-    Held,
-    Enters,
-    Evicts(Entry),
-}
-
-// The rule that applies, in words.
-impl fmt::Display for Way {
-    ghost output = { λ w. Some (way_text w) };
-
-    fn fmt<W: fmt::Write>(&self, f: &mut fmt::Formatter<W>) -> fmt::Result {
-        f.write_str(match self {
-            Way::Held => "held: it counts from its entry",
-            Way::Enters => "absent, and the line has room: it counts from 0",
-            Way::Evicts(_) =>
-                "absent, and the line is full: it counts from the first group and step - 1",
-        })
-    }
-}
-
-// How the code comes to its entry of the counter.
-fn way_of(counter: &SemiOrdered, code: Code) -> Way
-    ensures { result ≡ way_of (semi_meaning.model counter.now).places (semi_meaning.model counter.now).line code }
-{
-    if counter.holds(code) {
-        return Way::Held;
-    }
-    let line = counter.line();
-    if line.len() < counter.places() {
-        return Way::Enters;
-    }
-    line.first()
-        .map_or(Way::Enters, |first| Way::Evicts(*first))
-}
+use std::io;
+use workings::division::Division;
+use workings::line::Packet;
+use workings::semi_ordered::{Way, way_of};
 
 // What the working of an add needs of the counter before it.
-#[derive(Debug, Clone, Copy, PartialEq, Eq)]
+#[derive(Clone, Copy)]
 pub struct Before {
     way: Way,
     start: Entry,
@@ -93,7 +53,7 @@ impl Worked for SemiOrdered {
         println!(rt; "  before:   group {group}, remainder {remainder}")?;
         let sum = u64::from(remainder) + u64::from(weight);
         if let Some(division) = Division::of(sum, self.step()) {
-            let quotient = division.quotient();
+            let quotient = division.quotient;
             let after = self.start(code);
             let new_group = after.group;
             let new_remainder = after.remainder;

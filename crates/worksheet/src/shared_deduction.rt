@@ -1,68 +1,21 @@
 // The working of an add to a shared-deduction counter.
-ghost use Rattle.std.specs.Prelude.{◌≡◌, Some};
-ghost use Rattle.shared.specs.Shared.{shared_meaning};
-ghost use Rattle.worksheet.specs.Workings.{shared_way_of, shared_way_text, lost};
-
-use crate::line::Packet;
 use crate::worked::Worked;
 use flow::code::Code;
 use flow::counter::FrameCounter;
 use shared::{Held, Place, SharedDeduction};
 use std::alloc::AllocError;
-use std::{fmt, io};
-
-// How a code comes to its count. Its rules have nothing in common with those of the other kind.
-#[derive(Debug, Clone, Copy, PartialEq, Eq)]
-pub enum Way {
-    Held,
-    Takes,
-    Shares,
-}
-
-// The rule that applies, in words.
-impl fmt::Display for Way {
-    ghost output = { λ w. Some (shared_way_text w) };
-
-    fn fmt<W: fmt::Write>(&self, f: &mut fmt::Formatter<W>) -> fmt::Result {
-        f.write_str(match self {
-            Way::Held => "held: its count rises",
-            Way::Takes => "absent, and a place is empty: it takes the lowest",
-            Way::Shares => "absent, and no place is empty: all counts fall",
-        })
-    }
-}
-
-// How the code comes to its count in the counter.
-fn way_of(counter: &SharedDeduction, code: Code) -> Way
-    ensures { result ≡ shared_way_of (shared_meaning.model counter.now).held code }
-{
-    if counter.holds(code) {
-        return Way::Held;
-    }
-    if counter.has_room() {
-        return Way::Takes;
-    }
-    Way::Shares
-}
+use std::io;
+use workings::line::Packet;
+use workings::shared_deduction::{Way, lost, way_of};
 
 // What the working of an add needs of the counter before it.
-#[derive(Debug, Drop)]
+#[derive(Drop)]
 pub struct Before {
     way: Way,
     count: u64,
     least: u64,
     deduction: u64,
     places: Vec<Place>,
-}
-
-// The code that had its place before and has it no more.
-fn lost(old: &Place, new: &Place) -> Option<Code>
-    ensures { result ≡ lost old.now new.now }
-{
-    match (old, new) {
-        (Some(held), Some(next)) if held.code == next.code => None,
-        (place, _) => place.map(|held| held.code),
-    }
 }
 
 // Prints the reckoning of the new count, or of what all places share.

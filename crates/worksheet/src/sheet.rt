@@ -1,6 +1,4 @@
 // A sheet: its title, a working for each packet, and the table at its end.
-use crate::line::{Heading, Packet, Sizes, Unread};
-use crate::totals::Totals;
 use crate::worked::Worked;
 use flow::counter::FrameCounter;
 use inputs::failure::Failure;
@@ -9,6 +7,8 @@ use semi::SemiOrdered;
 use shared::SharedDeduction;
 use std::io;
 use text::is_blank;
+use workings::line::{Heading, Packet, Sizes, Unread};
+use workings::totals::Totals;
 
 // A sheet of any kind, which is known only when the program runs. It is an enum, since a function may not make a `dyn` value and hand it out.
 #[derive(Drop)]
@@ -88,7 +88,7 @@ impl<C: Worked> Sheet<C> {
         }
         match Packet::read(line) {
             Ok(packet) => self.work_packet(rt, number, packet),
-            Err(unread) => show_failure(rt, number, Failure::from(unread)),
+            Err(unread) => show_failure(rt, number, Failure::Unread(unread)),
         }
     }
 
@@ -107,14 +107,14 @@ impl<C: Worked> Sheet<C> {
                 self.totals.add(packet)?;
                 Ok(())
             }
-            Err(refusal) => show_failure(rt, number, Failure::from(refusal)),
+            Err(refusal) => show_failure(rt, number, Failure::Refused(refusal)),
         }
     }
 
     // Ends the sheet with the table of its flows: each flow's estimate beside its true volume.
     fn end(&self, rt: &HostRuntime) -> io::Result<()> {
         println!(rt; "      flow       estimate    true volume")?;
-        for (code, volume) in self.totals.flows() {
+        for (code, volume) in &self.totals.flows {
             let flow = code.low;
             let estimate = self.counter.estimate(*code);
             println!(rt; "{flow:>10} {estimate:>14} {volume:>14}")?;
@@ -127,7 +127,7 @@ impl<C: Worked> Sheet<C> {
 
 // Opens the counter with the sizes of its heading.
 fn open<C: FrameCounter>(counter: &mut C, sizes: Option<Sizes>) -> Result<(), Failure<Unread>> {
-    let Sizes { places, step } = sizes.ok_or(Unread::Heading)?;
+    let Sizes { places, step } = sizes.ok_or(Failure::Unread(Unread::Heading))?;
     let places = usize::try_from(places).unwrap_or(usize::MAX);
     counter.open(places, step)?;
     Ok(())

@@ -1,9 +1,9 @@
 // What a counter does for a sheet of its workings.
-use crate::line::Packet;
 use flow::code::Code;
 use flow::counter::FrameCounter;
 use std::alloc::AllocError;
 use std::io;
+use workings::line::Packet;
 
 // A counter whose adds can be shown step by step.
 pub trait Worked: FrameCounter + Drop {

@@ -7,8 +7,8 @@ use Rattle.std.proofs.lemmas.Str.{digit_value_digit}
 use Rattle.text.proofs.number.Goals as goal
 
 -- a number that was cut at m is cut there again
-capped : (n v d m : ℕ) → n ≡ min v m → min (min (n * 10) m + d) m ≡ min (v * 10 + d) m
-capped n v d m e = omega arith
+cut_again : (n v d m : ℕ) → n ≡ min v m → min (min (n * 10) m + d) m ≡ min (v * 10 + d) m
+cut_again n v d m e = omega arith
 
 pub returns-then-not-is_ascii_digit : goal.returns-then-not-is_ascii_digit
 returns-then-not-is_ascii_digit c = λ h. let d = digit_at c.args.word.now c.loop-b.b-index h.1 (omega arith) in grind arith
@@ -19,5 +19,5 @@ loop-b-preserved c =
     let bs = c.args.word.now in
     let d : digit_value (get_or bs i 0) + 48 ≡ get_or bs i 0 = digit_value_digit (get_or bs i 0) (grind arith, grind arith) in
     let v = digits_value_more 10 bs i c.loop-b-test.true in
-    let k = capped c.loop-b.n (digits_value 10 (take i bs)) (digit_value (get_or bs i 0)) (2 ^ 64 - 1) c.loop-b.invariant.1 in
+    let k = cut_again c.loop-b.n (digits_value 10 (take i bs)) (digit_value (get_or bs i 0)) (2 ^ 64 - 1) c.loop-b.invariant.1 in
     (digits_more 10 bs i c.loop-b-test.true c.loop-b.invariant.0 (grind arith), omega arith)

@@ -1,8 +1,0 @@
-use Rattle.std.proofs.Common.{List, ℕ, Bor, map, take}
-use Rattle.window.specs.Logs.{LinesRead}
-use Rattle.window.proofs.log.Log.read.Given as goal
-
--- the lines so far were read
-abbrev pub invariant-loop-line : goal.invariant-loop-line
-invariant-loop-line g l =
-    LinesRead (λ k. g.K.WrittenKey.text (g.K.FlowKey.coded k)) l.fn.asks (map (λ (x : Bor (List ℕ)). x.now) (take l.line-index l.lines)) l.log.calls.items l.log.notes.items
