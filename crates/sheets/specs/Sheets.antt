@@ -3,13 +3,14 @@
 use Rattle.sheets.specs.CounterSheets.{SemiSheet, SemiPlaces, SharedSheet}
 use Rattle.sheets.specs.KeySheets.{PrefixSheet, AccountSheet}
 use Rattle.sheets.specs.MeterSheets.{MeterSheet}
-use Rattle.sheets.specs.RefusalSheets.{OpenSheet, AddSheet}
+use Rattle.sheets.specs.RefusalSheets.{OpenSheet, AddSheet, LeftSheet}
 
 pub record Sheets : Type 0 where
   pub prefixes : PrefixSheet
   pub accounts : AccountSheet
   pub opens : OpenSheet
   pub adds : AddSheet
+  pub left : LeftSheet
   pub semi : SemiSheet
   pub semi_places : SemiPlaces
   pub shared : SharedSheet
