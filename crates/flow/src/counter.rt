@@ -1,6 +1,7 @@
 // What every frame counter promises.
-ghost use Rattle.std.specs.Prelude.{◌≡◌};
-ghost use Rattle.flow.specs.Answers.{told, Unchanged};
+ghost use Rattle.std.specs.Prelude.{◌≡◌, ◌≤◌, cond};
+ghost use Rattle.flow.specs.Answers.{answered, refused, told, Unchanged};
+ghost use Rattle.flow.specs.Limits.{most_places, most_step, outside};
 ghost use Rattle.flow.specs.Meanings.{Meaning, Opens, Flushes, Adds, Heavy, Steps, open_answer, open_leaves, add_answer, add_leaves};
 
 use crate::code::Code;
@@ -62,4 +63,13 @@ pub trait FrameCounter {
     ghost heavy: { Heavy meaning };
 
     ghost steps: { Steps meaning };
+}
+
+// Opens the counter with this many places and step 1, which every kind takes.
+pub fn open_by_one<C: FrameCounter>(counter: &mut C, places: usize) -> Result<(), Refusal>
+    ensures answer { told result ≡ cond (outside 1 most_places places) (refused 1) (answered tt) }
+    ensures state { C.meaning.model counter.new ≡ open_leaves C.meaning (C.meaning.model counter.old) places 1 }
+    ensures no_kind_takes_more { C.meaning.greatest (C.meaning.model counter.old) ≤ most_step }
+{
+    counter.open(places, 1)
 }

@@ -3,7 +3,7 @@ ghost use Rattle.std.specs.Prelude.{◌≡◌, ℕ, List, length, Ok, Some, Matc
 ghost use Rattle.flow.specs.declared.code.Code.{Code as Coded};
 ghost use Rattle.flow.specs.declared.refusal.Refusal.{Refusal as Refused};
 ghost use Rattle.flow.specs.Codes.{same};
-ghost use Rattle.flow.specs.Answers.{told, answer_map};
+ghost use Rattle.flow.specs.Answers.{refused, told, answer_map};
 ghost use Rattle.flow.specs.Keys.{MadeOf, read_answer};
 
 use crate::code::Code;
@@ -34,9 +34,10 @@ pub trait FlowKey: Sized {
     fn read(bytes: &[u8]) -> Result<Self, Refusal>
         ensures { answer_map coded (told result) ≡ read_answer (spelled bytes.now) };
 
-    // The constant `BYTES`, as a call.
+    // The constant `BYTES`, as a call. Bytes of any other number are refused.
     final fn key_bytes() -> usize
-        ensures { result ≡ BYTES }
+        ensures count { result ≡ BYTES }
+        ensures no_other_count { (bytes : List ℕ) → length bytes ≢ BYTES → read_answer (spelled bytes) ≡ refused 14 }
     {
         Self::BYTES
     }
@@ -44,7 +45,7 @@ pub trait FlowKey: Sized {
     // the key made of a key's code is that key
     ghost back: { (k : Self) (r : Result Self Refused) → MadeOf coded (coded k) r → r ≡ Ok k };
 
-    // only so many bytes spell a key: a promise to those who use the kind, on which nothing here rests
+    // only so many bytes spell a key
     ghost wide: { (bytes : List ℕ) (code : Coded) → spelled bytes ≡ Some code → length bytes ≡ BYTES };
 }
 

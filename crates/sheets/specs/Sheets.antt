@@ -2,7 +2,7 @@
 --   Sheets   the sheets of keys, of refusals, of both counters, of the meter and of a day
 use Rattle.sheets.specs.CounterSheets.{SemiSheet, SemiPlaces, SharedSheet}
 use Rattle.sheets.specs.KeySheets.{PrefixSheet, AccountSheet}
-use Rattle.sheets.specs.RefusalSheets.{OpenSheet, AddSheet}
+use Rattle.sheets.specs.RefusalSheets.{OpenSheet, AddSheet, LeftSheet}
 use Rattle.sheets.specs.MeterSheets.{MeterSheet, FramesSheet}
 use Rattle.sheets.specs.DaySheets.{DaySheet}
 
@@ -11,6 +11,7 @@ pub record Sheets : Type 0 where
   pub accounts : AccountSheet
   pub opens : OpenSheet
   pub adds : AddSheet
+  pub left : LeftSheet
   pub semi : SemiSheet
   pub semi_places : SemiPlaces
   pub shared : SharedSheet

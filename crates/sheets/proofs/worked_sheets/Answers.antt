@@ -1,13 +1,16 @@
-use mathlib.Core.Path.{refl}
+use Rattle.std.proofs.Common.{◌≡◌, ℕ, Ok, Err, Result, refl, sym}
 use native.Mathlib.Omega.{arith}
 use Rattle.std.proofs.lemmas.Bool.Decides.{nat_tests}
+use Rattle.flow.proofs.Inside.{refused_not}
+use Rattle.flow.specs.Answers.{refused, told, Unchanged}
+use Rattle.flow.specs.declared.refusal.Refusal.{Refusal}
 use Rattle.frame.specs.Plans.{block_of, unit_of}
 use Rattle.semi.specs.Estimates.{estimate_full}
 use Rattle.semi.proofs.Orders.{placed_last}
 use Rattle.sheets.specs.CounterSheets.{SemiSheet, SemiPlaces, SharedSheet, semi_first}
 use Rattle.sheets.specs.KeySheets.{PrefixSheet, AccountSheet}
 use Rattle.sheets.specs.MeterSheets.{MeterSheet, FramesSheet}
-use Rattle.sheets.specs.RefusalSheets.{OpenSheet, AddSheet}
+use Rattle.sheets.specs.RefusalSheets.{OpenSheet, AddSheet, LeftSheet}
 use Rattle.sheets.proofs.Daily.{day_sheet}
 use Rattle.sheets.proofs.Reading.{answers_tell, said_tells, sums_weights, shares}
 use Rattle.sheets.proofs.worked_sheets.Goals as goal
@@ -58,6 +61,19 @@ adds = record {
   weight_1048577 = refl;
   full = refl;
   weight_comes_first = refl;
+}
+
+left_alone : (r : Result ℕ Refusal) (n old new : ℕ) → told r ≡ refused n → Unchanged r old new → new ≡ old
+left_alone (Ok a) n old new t u = absurd (refused_not n a (sym t))
+left_alone (Err e) n old new t u = u
+
+left : LeftSheet
+left = record {
+  told_number = refl;
+  told_answer = refl;
+  after_refusal = λ old new. refl;
+  after_answer = λ old new. refl;
+  unchanged = left_alone;
 }
 
 semi : SemiSheet
@@ -137,7 +153,7 @@ frames = record {
 
 pub returns : goal.returns
 returns c = record {
-  sheets_stand = record { prefixes = prefixes; accounts = accounts; opens = opens; adds = adds; semi = semi; semi_places = semi_places; shared = shared; meter = meter; frames = frames; day = day_sheet };
+  sheets_stand = record { prefixes = prefixes; accounts = accounts; opens = opens; adds = adds; left = left; semi = semi; semi_places = semi_places; shared = shared; meter = meter; frames = frames; day = day_sheet };
   placed_behind_the_last = placed_last;
   answers_tell_the_ledger = answers_tell;
   what_is_said_tells_the_answer = said_tells;
