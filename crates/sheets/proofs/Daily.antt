@@ -71,6 +71,8 @@ sure =
     (λ a h. h.2 ∙ ap list_said h.1) then
     (λ a h. h) then
     (λ a h. h.2) then
+    (λ a h. h.2) then
+    (λ a h. h) then
     (λ a h. h) then
     (λ a h. h) then
     (λ a h. h) then

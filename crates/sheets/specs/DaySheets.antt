@@ -44,8 +44,9 @@ abbrev pub day_rows : List (Call Code × (Said → Type 0))
 day_rows =
     -- nothing but a plan is taken before one is
     (call.Estimate A, Exactly (says_refused 17)) ∷
-    (call.List 80 (lent 510 510), Exactly (says_refused 17)) ∷
+    (call.List 0 (lent 0 0), Exactly (says_refused 17)) ∷
     (call.Restart, Exactly (says_refused 17)) ∷
+    (call.Packet A 0, Exactly (says_refused 17)) ∷
     (call.Packet A 10, Exactly (says_refused 17)) ∷
     -- of plans with two things wrong, and at the very edge
     (call.Plan (record { places = 0; step = 2; most = 0; window = 0; blocks = 0 }), Exactly (says_refused 1)) ∷
@@ -55,6 +56,7 @@ day_rows =
     (call.Plan (record { places = 4; step = 1; most = 10; window = 8; blocks = 5 }), Exactly (says_refused 7)) ∷
     (call.Plan (record { places = 4; step = 1; most = 10; window = 8; blocks = 4 }), Exactly (says_refused 8)) ∷
     (call.Plan day_plan, Exactly says_planned) ∷
+    (call.Plan (record { places = 0; step = 2; most = 0; window = 0; blocks = 0 }), Exactly (says_refused 17)) ∷
     (call.Plan day_plan, Exactly (says_refused 17)) ∷
     -- no refused packet counts
     (call.Estimate A, FromTo 0 79) ∷
