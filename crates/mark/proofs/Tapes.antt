@@ -12,6 +12,7 @@ worked = record {
   accounts = refl;
   commands = refl;
   levels = refl;
+  greater_levels = refl;
   plans = refl;
   packets = refl;
   no_kinds = refl;

@@ -759,13 +759,17 @@ list 1
 flow 24 3232237312 30
 closed 2 20";
 
-// All these are marked with ample areas.
-const TAPES: [&str; 9] = [
-    SAMPLE, KINDS, STATES, CUT, PLANS, PACKETS, KEYS, LEVELS, FRAMES,
-];
-
-// Cases with areas of other lengths, enough for some tapes and not for others.
-const LENT: [(Areas, &str); 7] = [
+// The cases, with the areas that are lent for them: ample ones, and others that are enough for some tapes and not for others.
+const TAPES: [(Areas, &str); 16] = [
+    (AMPLE, SAMPLE),
+    (AMPLE, KINDS),
+    (AMPLE, STATES),
+    (AMPLE, CUT),
+    (AMPLE, PLANS),
+    (AMPLE, PACKETS),
+    (AMPLE, KEYS),
+    (AMPLE, LEVELS),
+    (AMPLE, FRAMES),
     (
         Areas {
             text: 40_960,
@@ -950,48 +954,21 @@ fn mark_cases(rt: &impl Abort, heap: Global, areas: Areas, cases: &str) -> Resul
 
 #[test]
 fn tapes_are_marked(rt: HostRuntime) -> Result<(), Fail> {
-    let mut count = 0u32;
-    for cases in TAPES {
-        count = count.saturating_add(mark_cases(&rt, rt.alloc(), AMPLE, cases)?);
-    }
-    assert_eq!(rt; count, 80);
-    Ok(())
-}
-
-#[test]
-fn short_areas_are_refused(rt: HostRuntime) -> Result<(), Fail> {
-    let mut count = 0u32;
-    for (areas, cases) in LENT {
-        count = count.saturating_add(mark_cases(&rt, rt.alloc(), areas, cases)?);
-    }
-    assert_eq!(rt; count, 9);
-    Ok(())
-}
-
-// A tape of this length: the kinds 1 and 1, and then zeros.
-fn long_tape(heap: Global, length: usize) -> Result<Vec<u8>, AllocError> {
-    let mut tape = Vec::new(heap);
-    tape.resize(length.min(2), 1)?;
-    tape.resize(length, 0)?;
-    Ok(tape)
-}
-
-#[test]
-fn a_tape_may_be_too_long(rt: HostRuntime) -> Result<(), Fail> {
     let heap = rt.alloc();
-    let whole = long_tape(heap, 65_536)?;
-    let longer = long_tape(heap, 65_537)?;
-    let marked = lines_of(heap, &whole, AMPLE)?;
-    assert_eq!(rt; str::from_utf8(&marked)?, "no 15 2\nbroken 0 0\n");
-    let marked = lines_of(heap, &longer, AMPLE)?;
-    assert_eq!(rt; str::from_utf8(&marked)?, "no 19 0\nbroken 0 0\n");
-    // The text area is looked at before the length of the tape.
-    let short = Areas {
-        text: 40_959,
-        ..AMPLE
-    };
-    let marked = lines_of(heap, &longer, short)?;
-    assert_eq!(rt; str::from_utf8(&marked)?, "broken 0 0\n");
+    let mut count = 0u32;
+    for (areas, cases) in TAPES {
+        count = count.saturating_add(mark_cases(&rt, heap, areas, cases)?);
+    }
+    assert_eq!(rt; count, 89);
+    // The greatest length of a tape, and a byte more: where the length is right, the first byte names no kind.
+    for (length, due) in [
+        (65_536, "no 15 0\nbroken 0 0\n"),
+        (65_537, "no 19 0\nbroken 0 0\n"),
+    ] {
+        let tape = vec![in heap; 0; length]?;
+        let marked = lines_of(heap, &tape, AMPLE)?;
+        assert_eq!(rt; str::from_utf8(&marked)?, due);
+    }
     Ok(())
 }
 
@@ -1075,35 +1052,39 @@ const fn ample(tape: &'static str, lines: &'static str) -> Call {
     }
 }
 
-#[test]
-fn another_tape_is_read_from_the_place_on(rt: HostRuntime) -> Result<(), Fail> {
-    let planned = "0101 010003000000010000000A000000040002";
-    let other = "FFFF FFFFFFFFFFFFFFFFFFFFFFFFFFFFFFFFFF 020A000000080000000A 08";
-    let calls = [
-        ample(planned, "open\n"),
-        ample(other, "took 0\n"),
-        ample(planned, "no 16 29\n"),
-    ];
-    sit(&rt, rt.alloc(), &calls, "broken 1 10\n")
-}
-
-#[test]
-fn a_refusal_without_a_line_touches_nothing(rt: HostRuntime) -> Result<(), Fail> {
-    let tape = "0101 010003000000010000000A000000040002 08";
-    let refused = |text, refusal| Call {
+// A call whose text area is of this length, and that is refused without a line.
+const fn refused(tape: &'static str, text: usize, refusal: Refusal) -> Call {
+    Call {
         tape,
         areas: Areas { text, ..AMPLE },
         answer: Err(refusal),
         list: None,
-    };
+    }
+}
+
+// The tape of a plan alone, and the same with a close.
+const PLANNED: &str = "0101 010003000000010000000A000000040002";
+
+const CLOSED: &str = "0101 010003000000010000000A000000040002 08";
+
+#[test]
+fn a_sitting_reads_on_from_its_place(rt: HostRuntime) -> Result<(), Fail> {
+    // Another tape is read from the place on.
+    let other = "FFFF FFFFFFFFFFFFFFFFFFFFFFFFFFFFFFFFFF 020A000000080000000A 08";
     let calls = [
-        refused(LEAST_TEXT - 1, Refusal::TextTooShort),
-        ample(tape, "open\n"),
-        refused(LEAST_TEXT - 1, Refusal::TextTooShort),
-        ample(tape, ""),
-        refused(LEAST_TEXT, Refusal::NotTakenNow),
-        // The text area is looked at before the state.
-        refused(LEAST_TEXT - 1, Refusal::TextTooShort),
+        ample(PLANNED, "open\n"),
+        ample(other, "took 0\n"),
+        ample(PLANNED, "no 16 29\n"),
+    ];
+    sit(&rt, rt.alloc(), &calls, "broken 1 10\n")?;
+    // A refusal without a line touches nothing. The text area is looked at before the state.
+    let calls = [
+        refused(CLOSED, LEAST_TEXT - 1, Refusal::TextTooShort),
+        ample(CLOSED, "open\n"),
+        refused(CLOSED, LEAST_TEXT - 1, Refusal::TextTooShort),
+        ample(CLOSED, ""),
+        refused(CLOSED, LEAST_TEXT, Refusal::NotTakenNow),
+        refused(CLOSED, LEAST_TEXT - 1, Refusal::TextTooShort),
     ];
     sit(&rt, rt.alloc(), &calls, "closed 0 0\n")
 }

@@ -23,9 +23,8 @@ use Rattle.sitting.specs.declared.reply.Reply.TheVariants as reply
 use Rattle.sitting.specs.declared.stage.Stage.{Stage}
 use Rattle.sitting.specs.declared.stage.Stage.TheVariants as stage
 use Rattle.sitting.specs.Courses.{Course, calls, asked, packets_after, volume_after, accepted}
-use Rattle.sitting.specs.Markings.{weight_taken, weights_taken}
-use Rattle.sitting.specs.Tapes.{outcomes_of}
-use Rattle.sitting.specs.Turns.{Outcome, Turn, replied, ask_answer, answer_of, answer_in, turned}
+use Rattle.sitting.specs.Markings.{weight_taken}
+use Rattle.sitting.specs.Turns.{replied, answer_of, answer_in, turned}
 
 -- the weights of the packet that is accepted, if one is
 weights : Option ℕ → List ℕ

@@ -1,11 +1,10 @@
 -- The weight of a packet stands on the tape behind its key.
-use Rattle.std.proofs.Common.{◌≡◌, ℕ, ◌+◌, Bool, true, false, refl, cond, eqb, ltb, List, [], ◌∷◌, length, drop, arith, inl, inr, sym, ap, ◌∙◌, add_assoc}
-use Rattle.std.proofs.lemmas.Bool.{cases_Bool}
+use Rattle.std.proofs.Common.{◌≡◌, ℕ, ◌+◌, Bool, true, false, refl, cond, eqb, ltb, List, [], ◌∷◌, length, drop, arith, sym, ap, ◌∙◌, add_assoc}
 use Rattle.std.proofs.lemmas.Bool.Decides.{nat_tests}
 use Rattle.std.proofs.lemmas.List.{get_or-drop}
 use Rattle.flow.specs.Answers.{Answer, answered, refused}
 use Rattle.flow.specs.Limits.{most_tape}
-use Rattle.flow.specs.Spellings.{be16, be32}
+use Rattle.flow.specs.Spellings.{be32}
 use Rattle.tape.specs.declared.command.Command.{Command}
 use Rattle.tape.specs.declared.command.Command.TheVariants as command
 use Rattle.tape.specs.Commands.{command_named, command_at}
