@@ -5,12 +5,13 @@
 --   count_of   the code's count, 0 where no entry counts it
 --   total      the sum of the counts
 --   least      the least of the counts
+--   estimate   the greater of the code's count and the least count: an absent code has the least
 --   takes      an add of the code may go to this entry: to the code's own where there is one, else to one with the least count
 --   taker      the place of the first such entry
 --   credited   the entries once the first that passes a test is the code's, with its count raised
 --   added      the entries after an add
 --   apart      the test that no two entries count one code
-use Rattle.std.specs.Prelude.{ℕ, ◌+◌, min, Bool, true, cond, not, ◌&&◌, ◌||◌, List, [], ◌∷◌, map, ◌==◌, nat_lt}
+use Rattle.std.specs.Prelude.{ℕ, ◌+◌, min, max, Bool, true, cond, not, ◌&&◌, ◌||◌, List, [], ◌∷◌, map, ◌==◌, nat_lt}
 use Rattle.std.specs.List.{fold, list_any, position_or_len}
 use Rattle.flow.specs.Codes.{same}
 use Rattle.flow.specs.declared.code.Code.{Code}
@@ -36,6 +37,9 @@ total (e ∷ es) = e.count + total es
 -- no count is above their sum
 abbrev pub least : List Entry → ℕ
 least es = fold min (total es) (map (λ e. e.count) es)
+
+abbrev pub estimate : Code → List Entry → ℕ
+estimate k es = max (count_of k es) (least es)
 
 abbrev pub takes : Code → List Entry → Entry → Bool
 takes k es e = cond (holds k es) (counts k e) (e.count == least es)

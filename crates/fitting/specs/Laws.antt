@@ -1,5 +1,5 @@
 -- A Space-Saving counter keeps the laws of a frame counter.
-use Rattle.std.specs.Prelude.{◌≡◌, ℕ, zero, suc, ◌+◌, ◌*◌, ◌<◌, ◌≤◌, max, true, List, [], ◌∷◌, length, replicate, refl}
+use Rattle.std.specs.Prelude.{◌≡◌, ℕ, zero, suc, ◌+◌, ◌*◌, ◌<◌, ◌≤◌, true, List, [], ◌∷◌, length, replicate, refl}
 use Rattle.std.proofs.Common.{subst, inl, inr, arith, mul-le-mul_left}
 use Rattle.std.specs.List.{AllByRecursion}
 use Rattle.std.proofs.lemmas.List.{length-replicate}
@@ -10,7 +10,7 @@ use Rattle.flow.specs.Meanings.{Fresh, Opens, Flushes, Grown, Adds, Heavy, Disti
 use Rattle.flow.proofs.Codes.{same_apart}
 use Rattle.flow.proofs.Sums.{Shown, sum_held}
 use Rattle.flow.specs.declared.code.Code.{Code}
-use Rattle.fitting.specs.Entries.{vacant, count_of, total, least, apart}
+use Rattle.fitting.specs.Entries.{vacant, count_of, total, least, estimate, apart}
 use Rattle.fitting.specs.Credits.{above_total, above_least, held_counts, count_of_within, least_total}
 use Rattle.fitting.specs.Adds.{taker_within, length-added, total-added, apart-added, own_estimate, other_estimate}
 use Rattle.fitting.specs.Shares.{holding}
@@ -68,16 +68,16 @@ module _ (x : SpaceModel) (s : SpaceSound x) (l : ℕ) (q : total x.entries + x.
     | inr y ↦ absurd (omega (arith, mul-le-mul_left (length x.entries) y, above_total (least x.entries) x.entries (above_least x.entries)))
   ]
 
-  shown_heavy : (codes : List Code) → AllByRecursion (λ k. l ≤ max (count_of k x.entries) (least x.entries)) codes →
-      AllByRecursion (Shown holding (λ k. max (count_of k x.entries) (least x.entries)) x.entries) codes
+  shown_heavy : (codes : List Code) → AllByRecursion (λ k. l ≤ estimate k x.entries) codes →
+      AllByRecursion (Shown holding (λ k. estimate k x.entries) x.entries) codes
   shown_heavy [] h = tt
   shown_heavy (k ∷ codes) h =
       let some : 0 < count_of k x.entries = omega (arith, above, h.0) in
       ((grind (arith, nat_tests, held_counts k x.entries), omega (arith, above, h.0)), shown_heavy codes h.1)
 
-  heavy_sum : (codes : List Code) → Distinct codes → AllByRecursion (λ k. l ≤ max (count_of k x.entries) (least x.entries)) codes →
-      sum_of (λ k. max (count_of k x.entries) (least x.entries)) codes ≤ total x.entries + x.packets * 0
-  heavy_sum codes a h = omega (arith, sum_held holding (λ k. max (count_of k x.entries) (least x.entries)) x.entries codes a (shown_heavy codes h))
+  heavy_sum : (codes : List Code) → Distinct codes → AllByRecursion (λ k. l ≤ estimate k x.entries) codes →
+      sum_of (λ k. estimate k x.entries) codes ≤ total x.entries + x.packets * 0
+  heavy_sum codes a h = omega (arith, sum_held holding (λ k. estimate k x.entries) x.entries codes a (shown_heavy codes h))
 
 pub space_opens : Opens space_meaning
 space_opens x n s told =

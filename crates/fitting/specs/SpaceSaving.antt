@@ -4,13 +4,13 @@
 --   space_opened    a counter just opened with so many places
 --   space_more      the model after an add that is not refused
 --   space_meaning   the kind as a frame counter
-use Rattle.std.specs.Prelude.{◌≡◌, ℕ, ◌+◌, ◌≤◌, ◌<◌, max, true, List, length, replicate}
+use Rattle.std.specs.Prelude.{◌≡◌, ℕ, ◌+◌, ◌≤◌, ◌<◌, true, List, length, replicate}
 use Rattle.flow.specs.Limits.{most_packets}
 use Rattle.flow.specs.Meanings.{Meaning}
 use Rattle.flow.specs.declared.code.Code.{Code}
 use Rattle.fitting.specs.declared.entry.Entry.{Entry}
 use Rattle.fitting.specs.declared.space_saving.SpaceSaving.{SpaceSaving}
-use Rattle.fitting.specs.Entries.{vacant, count_of, total, least, taker, added, apart}
+use Rattle.fitting.specs.Entries.{vacant, total, estimate, taker, added, apart}
 
 pub record SpaceModel : Type 0 where
   pub packets : ℕ
@@ -38,7 +38,7 @@ space_meaning = record {
   greatest = λ _. 1;
   packets = λ x. x.packets;
   volume = λ x. total x.entries;
-  estimate = λ x k. max (count_of k x.entries) (least x.entries);
+  estimate = λ x k. estimate k x.entries;
   opened = λ _ n _. space_opened n;
   flushed = λ x. space_opened (length x.entries);
   added = space_more;

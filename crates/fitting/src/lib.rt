@@ -1,4 +1,4 @@
-// A worked example: a kind of key and a kind of counter, fitted to the interface.
+// A worked example: a kind of key and a kind of counter, fitted by the traits alone, and served by a meter and a sitting.
 #![tactic(auto)]
 
 mod entries;
