@@ -19,17 +19,3 @@ module _ {C : Type 0} (m : Meaning C) (x : m.Model) (k : Code) (w : ℕ) where
           | inr d ↦ cond-false _ _ _ b ∙ cond-false _ _ _ d
         ]
       ]
-
-  -- a packet that the tally refuses is refused with the same number
-  pub add_refused : (n : ℕ) → admitted {A = Unit {0}} (m.packets x) w tt ≡ refused n → add_answer m x k w ≡ refused n
-  add_refused n e =
-      elim (cases_Bool (outside 1 most_weight w)) [
-        | inl b ↦ cond-true _ _ _ b ∙ so 3 (sym (cond-true _ _ _ b) ∙ e)
-        | inr b ↦ elim (cases_Bool (eqb (m.packets x) most_packets)) [
-          | inl d ↦ cond-false _ _ _ b ∙ (cond-true _ _ _ d ∙ so 4 (sym (cond-true _ _ _ d) ∙ (sym (cond-false _ _ _ b) ∙ e)))
-          | inr d ↦ absurd (refused_not n tt (sym (sym (cond-false _ _ _ d) ∙ (sym (cond-false _ _ _ b) ∙ e))))
-        ]
-      ]
-    where
-      so : (a : ℕ) → ◌≡◌ {A = Answer (Unit {0})} (refused a) (refused n) → ◌≡◌ {A = Answer ℕ} (refused a) (refused n)
-      so a q = cc

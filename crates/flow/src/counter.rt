@@ -69,6 +69,7 @@ pub trait FrameCounter {
 pub fn open_by_one<C: FrameCounter>(counter: &mut C, places: usize) -> Result<(), Refusal>
     ensures answer { told result ≡ cond (outside 1 most_places places) (refused 1) (answered tt) }
     ensures state { C.meaning.model counter.new ≡ open_leaves C.meaning (C.meaning.model counter.old) places 1 }
+    ensures unchanged { Unchanged result counter.old counter.new }
     ensures no_kind_takes_more { C.meaning.greatest (C.meaning.model counter.old) ≤ most_step }
 {
     counter.open(places, 1)

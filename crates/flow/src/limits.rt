@@ -21,6 +21,12 @@ pub const MOST_MARKS: usize = 510;
 // The bytes of scratch that a list asks for.
 pub const LEAST_SCRATCH: usize = 510;
 
+// The units of the least level of a list.
+pub const LEAST_LEVEL_UNITS: u64 = 3;
+
+// The units by less than which an estimate is above the true volume.
+pub const ERROR_UNITS: u64 = 4;
+
 // The bytes of a tape.
 pub const MOST_TAPE: usize = 65_536;
 

@@ -1,7 +1,8 @@
 // What an estimate says of a true volume.
-ghost use Rattle.std.specs.Prelude.{ℕ, ◌+◌, ◌*◌, ◌<◌, ◌≤◌, ◌↔◌};
-ghost use Rattle.frame.specs.Plans.{unit_of};
+ghost use Rattle.std.specs.Prelude.{ℕ, ◌+◌, ◌<◌, ◌≤◌, ◌↔◌};
+ghost use Rattle.frame.specs.Plans.{error_of};
 
+use flow::limits::ERROR_UNITS;
 use frame::layout::Layout;
 
 // The least and the greatest true volume that an estimate allows.
@@ -14,9 +15,9 @@ pub struct Interval {
 impl Interval {
     // The true volumes that an estimate under a plan is not below, and exceeds by less than four units.
     pub fn of(estimate: u64, layout: &Layout) -> Interval
-        ensures { (v : ℕ) → ((v ≤ estimate) × (estimate < v + 4 * unit_of layout.now.plan)) ↔ ((result.low ≤ v) × (v ≤ result.high)) }
+        ensures { (v : ℕ) → ((v ≤ estimate) × (estimate < v + error_of layout.now.plan)) ↔ ((result.low ≤ v) × (v ≤ result.high)) }
     {
-        let width = 4 * layout.unit() - 1;
+        let width = ERROR_UNITS * layout.unit() - 1;
         Interval {
             low: estimate.saturating_sub(width),
             high: estimate,

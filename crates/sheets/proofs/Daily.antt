@@ -8,10 +8,13 @@ use Rattle.frame.specs.Plans.{block_of, unit_of}
 use Rattle.frame.specs.Rolls.{Packet, true_volume}
 use Rattle.meter.specs.declared.record.Record.{Record}
 use Rattle.meter.specs.Ledgers.{fresh}
+use Rattle.meter.proofs.Dailies.{day_right}
+use Rattle.shared.specs.Shared.{shared_opened, shared_meaning}
+use Rattle.shared.specs.Laws.{shared_opens, shared_flushes, shared_adds, shared_heavy}
 use Rattle.meter.specs.Guarantees.{Within, Lists, records_of}
 use Rattle.meter.specs.Days.{Said, estimate_said, list_said, says_list, says_refused}
 use Rattle.sheets.specs.CounterSheets.{A, B}
-use Rattle.sheets.specs.DaySheets.{ListsOne, ListsOneOrNone, day_plan, day_rows, DaySheet}
+use Rattle.sheets.specs.DaySheets.{ListsOne, ListsOneOrNone, day_plan, day_rows, calls_of, DayMet, DaySheet}
 use Rattle.sheets.proofs.Fixing.{Sure, runs_meet, estimated, quiet, alone}
 
 abbrev ten : Packet
@@ -111,3 +114,6 @@ sure =
 
 pub day_sheet : DaySheet
 day_sheet answers runs = runs_meet (fresh 1) day_rows answers sure runs
+
+pub day_met : DayMet
+day_met = day_right shared_meaning shared_opens shared_flushes shared_adds shared_heavy (λ (k : Code). k) (shared_opened 1) (calls_of day_rows)

@@ -7,7 +7,7 @@ use Rattle.flow.specs.Codes.{same}
 use Rattle.flow.specs.declared.code.Code.{Code}
 use Rattle.flow.proofs.Codes.{same_true, same_from, same_sym}
 use Rattle.frame.specs.declared.plan.Plan.{Plan}
-use Rattle.frame.specs.Plans.{unit_of}
+use Rattle.frame.specs.Plans.{error_of}
 use Rattle.frame.specs.Rolls.{Packet, part, true_volume}
 use Rattle.meter.specs.declared.day.Call.{Call}
 use Rattle.meter.specs.declared.record.Record.{Record}
@@ -31,7 +31,7 @@ runs_meet l (r ∷ rs) [] sure runs = runs
 runs_meet l (r ∷ rs) (a ∷ as') sure runs = (sure.0 a runs.0, runs_meet (step id l r.0) rs as' sure.1 runs.1)
 
 -- the bounds of an estimate in numbers
-pub estimated : (p : Plan) (roll : List Packet) (k : Code) (low high : ℕ) → low ≤ true_volume p.window k roll → true_volume p.window k roll + 4 * unit_of p ≤ high + 1 →
+pub estimated : (p : Plan) (roll : List Packet) (k : Code) (low high : ℕ) → low ≤ true_volume p.window k roll → true_volume p.window k roll + error_of p ≤ high + 1 →
     (a : Said) → (e : Answer ℕ) × EstimateRight (Some p) roll k e × (a ≡ estimate_said e) → FromTo low high a
 estimated p roll k low high lower upper a h =
     let within = h.1.2 in

@@ -9,6 +9,7 @@
 --   day_rows        the calls of the day, each with what is fixed of its answer
 --   calls_of        the calls of such rows
 --   Meets           answers are as the rows say, one for each
+--   DayMet          some answers keep the guarantee of this day: those of a shared-deduction counter
 --   DaySheet        whatever answers keep the guarantee of this day, over a counter whose greatest step is 1, are as its rows say
 use Rattle.std.specs.Prelude.{◌≡◌, ℕ, ◌≤◌, ◌⊎◌, List, [], ◌∷◌}
 use Rattle.flow.specs.declared.code.Code.{Code}
@@ -16,7 +17,10 @@ use Rattle.frame.specs.declared.plan.Plan.{Plan}
 use Rattle.meter.specs.declared.day.Areas.{Areas}
 use Rattle.meter.specs.declared.day.Call.{Call}
 use Rattle.meter.specs.declared.day.Call.TheVariants as call
+use Rattle.meter.specs.States.{unplanned}
+use Rattle.meter.specs.Sequences.{day_said}
 use Rattle.meter.specs.Days.{Said, says_planned, says_took, says_estimate, says_list, says_restarted, says_refused, Day}
+use Rattle.shared.specs.Shared.{shared_opened, shared_meaning}
 use Rattle.sheets.specs.CounterSheets.{A, B}
 
 abbrev pub Exactly : Said → Said → Type 0
@@ -99,6 +103,9 @@ Meets [] [] = Unit {0}
 Meets [] (a ∷ as') = ⊥
 Meets (r ∷ rs) [] = ⊥
 Meets (r ∷ rs) (a ∷ as') = r.1 a × Meets rs as'
+
+abbrev pub DayMet : Type 0
+DayMet = Day (λ (k : Code). k) 1 (calls_of day_rows) (day_said (λ (k : Code). k) shared_meaning (unplanned (shared_opened 1)) (calls_of day_rows))
 
 abbrev pub DaySheet : Type 0
 DaySheet = (answers : List Said) → Day (λ (k : Code). k) 1 (calls_of day_rows) answers → Meets day_rows answers

@@ -4,7 +4,7 @@ use Rattle.sheets.specs.CounterSheets.{SemiSheet, SemiPlaces, SharedSheet}
 use Rattle.sheets.specs.KeySheets.{PrefixSheet, AccountSheet}
 use Rattle.sheets.specs.RefusalSheets.{OpenSheet, AddSheet, LeftSheet}
 use Rattle.sheets.specs.MeterSheets.{MeterSheet, FramesSheet}
-use Rattle.sheets.specs.DaySheets.{DaySheet}
+use Rattle.sheets.specs.DaySheets.{DayMet, DaySheet}
 
 pub record Sheets : Type 0 where
   pub prefixes : PrefixSheet
@@ -17,4 +17,5 @@ pub record Sheets : Type 0 where
   pub shared : SharedSheet
   pub meter : MeterSheet
   pub frames : FramesSheet
+  pub day_met : DayMet
   pub day : DaySheet

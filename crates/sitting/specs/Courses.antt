@@ -18,7 +18,7 @@ use Rattle.flow.specs.Answers.{Answer, answered, refused, answer_map}
 use Rattle.flow.specs.Keys.{read_answer}
 use Rattle.flow.specs.declared.code.Code.{Code}
 use Rattle.frame.specs.declared.plan.Plan.{Plan}
-use Rattle.frame.specs.Plans.{unit_of}
+use Rattle.frame.specs.Plans.{error_of}
 use Rattle.meter.specs.declared.day.Areas.{Areas}
 use Rattle.meter.specs.declared.day.Call.{Call}
 use Rattle.meter.specs.declared.day.Call.TheVariants as call
@@ -68,8 +68,9 @@ module _ (spelled : List ℕ → Option Code) (areas : Areas) where
 abbrev pub levelled : ℕ → Settings
 levelled h = record { level = h }
 
+-- no flow without a packet in the window is on a list at this level
 abbrev pub first_level : Plan → ℕ
-first_level q = 4 * unit_of q
+first_level q = error_of q
 
 abbrev pub packets_after : ℕ → Option ℕ → ℕ
 packets_after n None = n

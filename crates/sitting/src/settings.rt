@@ -3,6 +3,8 @@ ghost use Rattle.std.specs.Prelude.{◌≡◌, ◌*◌, ◌≤◌};
 ghost use Rattle.flow.specs.Limits.{most_unit};
 ghost use Rattle.sitting.specs.Courses.{levelled};
 
+use flow::limits::ERROR_UNITS;
+
 // What stands until another command changes it: the level of lists.
 #[derive(Debug, Clone, Copy, PartialEq, Eq)]
 pub struct Settings {
@@ -15,7 +17,9 @@ impl Settings {
         requires { unit ≤ most_unit }
         ensures { result ≡ levelled (4 * unit) }
     {
-        Settings { level: 4 * unit }
+        Settings {
+            level: ERROR_UNITS * unit,
+        }
     }
 }
 

@@ -1,4 +1,5 @@
 // What is printed of a log.
+use flow::limits::ERROR_UNITS;
 use frame::layout::Layout;
 use inputs::failure::Failure;
 use logs::heading::{Asks, KeyKind};
@@ -63,7 +64,7 @@ fn show_unit(rt: &HostRuntime, layout: Option<Layout>) -> io::Result<()> {
         return Ok(());
     };
     let unit = layout.unit();
-    let bound = 4 * unit;
+    let bound = ERROR_UNITS * unit;
     println!(rt;
         "  The unit T is {unit}: an estimate exceeds the true volume by less than 4 T = {bound}."
     )

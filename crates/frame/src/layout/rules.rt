@@ -8,12 +8,9 @@ ghost use Rattle.frame.specs.Layouts.{Laid};
 
 use crate::layout::Layout;
 use crate::plan::Plan;
-use flow::limits::{MOST_WEIGHT, MOST_WINDOW};
+use flow::limits::{LEAST_LEVEL_UNITS, MOST_WEIGHT, MOST_WINDOW};
 use flow::refusal::Refusal;
 use flow::sizes::Sizes;
-
-// The units of the least level of a list.
-const LEAST_LEVEL_UNITS: u64 = 3;
 
 impl Plan {
     // Whether the numbers of a plan can be kept over a counter with this greatest step.

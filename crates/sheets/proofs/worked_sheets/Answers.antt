@@ -11,7 +11,7 @@ use Rattle.sheets.specs.CounterSheets.{SemiSheet, SemiPlaces, SharedSheet, semi_
 use Rattle.sheets.specs.KeySheets.{PrefixSheet, AccountSheet}
 use Rattle.sheets.specs.MeterSheets.{MeterSheet, FramesSheet}
 use Rattle.sheets.specs.RefusalSheets.{OpenSheet, AddSheet, LeftSheet}
-use Rattle.sheets.proofs.Daily.{day_sheet}
+use Rattle.sheets.proofs.Daily.{day_met, day_sheet}
 use Rattle.sheets.proofs.Reading.{answers_tell, said_tells, sums_weights, shares}
 use Rattle.sheets.proofs.worked_sheets.Goals as goal
 
@@ -153,7 +153,7 @@ frames = record {
 
 pub returns : goal.returns
 returns c = record {
-  sheets_stand = record { prefixes = prefixes; accounts = accounts; opens = opens; adds = adds; left = left; semi = semi; semi_places = semi_places; shared = shared; meter = meter; frames = frames; day = day_sheet };
+  sheets_stand = record { prefixes = prefixes; accounts = accounts; opens = opens; adds = adds; left = left; semi = semi; semi_places = semi_places; shared = shared; meter = meter; frames = frames; day_met = day_met; day = day_sheet };
   placed_behind_the_last = placed_last;
   answers_tell_the_ledger = answers_tell;
   what_is_said_tells_the_answer = said_tells;

@@ -14,5 +14,6 @@ returns g c =
     record {
       answer = c.open.ensures.answer ∙ ap (λ b. cond (outside 1 most_places c.args.places) (refused 1) (cond b (refused 2) (answered tt))) takes;
       state = c.open.ensures.state;
+      unchanged = c.open.ensures.unchanged;
       no_kind_takes_more = within.1;
     }
