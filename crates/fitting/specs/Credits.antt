@@ -26,23 +26,23 @@ first_place p [] = refl
 first_place p (e ∷ es) = grind (arith, nat_tests, first_place p es)
 
 -- each count is at least m
-abbrev pub Above : ℕ → List Entry → Type 0
-Above m [] = Unit {0}
-Above m (e ∷ es) = (m ≤ e.count) × Above m es
+abbrev pub AtLeast : ℕ → List Entry → Type 0
+AtLeast m [] = Unit {0}
+AtLeast m (e ∷ es) = (m ≤ e.count) × AtLeast m es
 
-above_first : (p : Bool) (k : Code) (w m : ℕ) (e : Entry) (es fs : List Entry) → m ≤ e.count → Above m es → Above m fs → Above m (cond p (record { code = k; count = e.count + w } ∷ es) (e ∷ fs))
+above_first : (p : Bool) (k : Code) (w m : ℕ) (e : Entry) (es fs : List Entry) → m ≤ e.count → AtLeast m es → AtLeast m fs → AtLeast m (cond p (record { code = k; count = e.count + w } ∷ es) (e ∷ fs))
 above_first true k w m e es fs l a b = (omega (arith, l), a)
 above_first false k w m e es fs l a b = (l, b)
 
-pub above-credited : (p : Entry → Bool) (k : Code) (w m : ℕ) (es : List Entry) → Above m es → Above m (credited p k w es)
+pub above-credited : (p : Entry → Bool) (k : Code) (w m : ℕ) (es : List Entry) → AtLeast m es → AtLeast m (credited p k w es)
 above-credited p k w m [] a = tt
 above-credited p k w m (e ∷ es) a = above_first (p e) k w m e es (credited p k w es) a.0 a.1 (above-credited p k w m es a.1)
 
-pub above_total : (m : ℕ) (es : List Entry) → Above m es → length es * m ≤ total es
+pub above_total : (m : ℕ) (es : List Entry) → AtLeast m es → length es * m ≤ total es
 above_total m [] a = omega arith
 above_total m (e ∷ es) a = omega (arith, suc-mul (length es) m, a.0, above_total m es a.1)
 
-pub above_held : (k : Code) (m : ℕ) (es : List Entry) → holds k es ≡ true → Above m es → m ≤ count_of k es
+pub above_held : (k : Code) (m : ℕ) (es : List Entry) → holds k es ≡ true → AtLeast m es → m ≤ count_of k es
 above_held k m [] h a = grind arith
 above_held k m (e ∷ es) h a = grind (arith, a.0, above_held k m es)
 
@@ -54,11 +54,11 @@ least_within : (a : ℕ) (es : List Entry) → least_with a es ≤ a
 least_within a [] = omega arith
 least_within a (e ∷ es) = omega (arith, least_within (min a e.count) es)
 
-above_least_with : (a : ℕ) (es : List Entry) → Above (least_with a es) es
+above_least_with : (a : ℕ) (es : List Entry) → AtLeast (least_with a es) es
 above_least_with a [] = tt
 above_least_with a (e ∷ es) = (omega (arith, least_within (min a e.count) es), above_least_with (min a e.count) es)
 
-least_above : (m a : ℕ) (es : List Entry) → m ≤ a → Above m es → m ≤ least_with a es
+least_above : (m a : ℕ) (es : List Entry) → m ≤ a → AtLeast m es → m ≤ least_with a es
 least_above m a [] l h = l
 least_above m a (e ∷ es) l h = least_above m (min a e.count) es (omega (arith, h.0)) h.1
 
@@ -74,7 +74,7 @@ met a (e ∷ es) =
       | inr q ↦ inr (grind (arith, nat_tests))
     ]
 
-pub above_least : (es : List Entry) → Above (least es) es
+pub above_least : (es : List Entry) → AtLeast (least es) es
 above_least es = above_least_with (total es) es
 
 pub least_total : (es : List Entry) → least es ≤ total es

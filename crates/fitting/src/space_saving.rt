@@ -1,4 +1,4 @@
-// The Space-Saving counter of Metwally, Agrawal and El Abbadi (2005): n entries, the least of which goes to a code that has none.
+// The Space-Saving counter: n entries, the least of which goes to a code that has none.
 ghost use Rattle.std.specs.Prelude.{◌≡◌, ◌<◌, true};
 ghost use Rattle.arrayvec.specs.ArrayVec.{array_vec_len};
 ghost use Rattle.fitting.specs.Entries.{total, apart};

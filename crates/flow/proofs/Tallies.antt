@@ -2,7 +2,7 @@
 use Rattle.std.proofs.Common.{◌≡◌, ℕ, eqb, sym, ◌∙◌, inl, inr}
 use Rattle.std.proofs.lemmas.Bool.{cases_Bool, cond-true, cond-false}
 use Rattle.flow.specs.declared.code.Code.{Code}
-use Rattle.flow.specs.Answers.{Answer, answered, refused}
+use Rattle.flow.specs.Answers.{answered}
 use Rattle.flow.specs.Limits.{most_weight, most_packets, outside}
 use Rattle.flow.specs.Meanings.{Meaning, add_answer}
 use Rattle.flow.specs.Tallies.{admitted}

@@ -8,7 +8,6 @@ use crate::code::Code;
 use crate::refusal::Refusal;
 
 // A counter of flow volumes with a fixed number of places. Its calls refuse what is out of range, so they take any numbers.
-// A struct round two numbers with no limits would say no more, and each kind and each caller would change.
 // The meaning of a kind gives each counter a model, and says what a model tells and what the calls do to it.
 // Soundness is a condition of the clauses and no part of a type: a type that carried it would ask more of the kinds that are fitted.
 pub trait FrameCounter {

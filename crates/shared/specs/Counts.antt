@@ -32,12 +32,12 @@ counted-entered k w (None ∷ ps) h = omega arith
 counted-entered k w (Some x ∷ ps) h = grind (arith, counted-entered k w ps)
 
 -- each count is at least m
-abbrev pub Above : ℕ → List Place → Type 0
-Above m [] = Unit {0}
-Above m (None ∷ ps) = Above m ps
-Above m (Some x ∷ ps) = (m ≤ x.count) × Above m ps
+abbrev pub AtLeast : ℕ → List Place → Type 0
+AtLeast m [] = Unit {0}
+AtLeast m (None ∷ ps) = AtLeast m ps
+AtLeast m (Some x ∷ ps) = (m ≤ x.count) × AtLeast m ps
 
-pub counted-lowered : (m : ℕ) (ps : List Place) → any_empty ps ≡ false → Above m ps → counted (lowered m ps) + length ps * m ≡ counted ps
+pub counted-lowered : (m : ℕ) (ps : List Place) → any_empty ps ≡ false → AtLeast m ps → counted (lowered m ps) + length ps * m ≡ counted ps
 counted-lowered m [] f a = grind arith
 counted-lowered m (None ∷ ps) f a = grind arith
 counted-lowered m (Some x ∷ ps) f a = grind (arith, nat_tests, suc-mul (length ps) m, counted-lowered m ps f a.1)
@@ -47,7 +47,7 @@ least_within w [] = omega arith
 least_within w (None ∷ ps) = least_within w ps
 least_within w (Some x ∷ ps) = omega (arith, least_within (min w x.count) ps)
 
-pub above_least : (w : ℕ) (ps : List Place) → Above (least w ps) ps
+pub above_least : (w : ℕ) (ps : List Place) → AtLeast (least w ps) ps
 above_least w [] = tt
 above_least w (None ∷ ps) = above_least w ps
 above_least w (Some x ∷ ps) = (omega (arith, least_within (min w x.count) ps), above_least (min w x.count) ps)
@@ -110,7 +110,7 @@ count_of-lowered j m [] t = grind arith
 count_of-lowered j m (None ∷ ps) t = count_of-lowered j m ps t
 count_of-lowered j m (Some x ∷ ps) t = grind (arith, nat_tests, same_true, count_of_missing j ps, count_of-lowered j m ps)
 
-pub count_of_above : (j : Code) (m : ℕ) (ps : List Place) → holds j ps ≡ true → Above m ps → m ≤ count_of j ps
+pub count_of_above : (j : Code) (m : ℕ) (ps : List Place) → holds j ps ≡ true → AtLeast m ps → m ≤ count_of j ps
 count_of_above j m [] h a = grind arith
 count_of_above j m (None ∷ ps) h a = count_of_above j m ps h a
 count_of_above j m (Some x ∷ ps) h a = grind (arith, count_of_above j m ps)

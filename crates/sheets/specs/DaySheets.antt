@@ -4,7 +4,7 @@
 --   FromTo          an estimate from the one number to the other
 --   ListsOne        a list of one flow alone, with such an estimate
 --   ListsOneOrNone  such a list, or an empty one
---   lent            areas of a list: bytes of scratch, records of table
+--   areas_of        areas of a list: bytes of scratch, records of table
 --   day_plan        5 places, step 1, greatest weight 10, a window of 8 packets, 4 blocks: T is 20
 --   day_rows        the calls of the day, each with what is fixed of its answer
 --   calls_of        the calls of such rows
@@ -38,8 +38,8 @@ ListsOne k low high a = (e : ℕ) × (low ≤ e) × (e ≤ high) × (a ≡ says_
 abbrev pub ListsOneOrNone : Code → ℕ → ℕ → Said → Type 0
 ListsOneOrNone k low high a = (a ≡ says_list []) ⊎ ListsOne k low high a
 
-abbrev pub lent : ℕ → ℕ → Areas
-lent scratch table = record { scratch = scratch; table = table }
+abbrev pub areas_of : ℕ → ℕ → Areas
+areas_of scratch table = record { scratch = scratch; table = table }
 
 abbrev pub day_plan : Plan
 day_plan = record { places = 5; step = 1; most = 10; window = 8; blocks = 4 }
@@ -48,7 +48,7 @@ abbrev pub day_rows : List (Call Code × (Said → Type 0))
 day_rows =
     -- nothing but a plan is taken before one is
     (call.Estimate A, Exactly (says_refused 17)) ∷
-    (call.List 0 (lent 0 0), Exactly (says_refused 17)) ∷
+    (call.List 0 (areas_of 0 0), Exactly (says_refused 17)) ∷
     (call.Restart, Exactly (says_refused 17)) ∷
     (call.Packet A 0, Exactly (says_refused 17)) ∷
     (call.Packet A 10, Exactly (says_refused 17)) ∷
@@ -77,12 +77,12 @@ day_rows =
     (call.Packet A 10, Took 5) ∷
     (call.Estimate A, FromTo 80 159) ∷
     (call.Estimate B, FromTo 0 79) ∷
-    (call.List 80 (lent 510 510), ListsOne A 80 159) ∷
-    (call.List 159 (lent 510 510), ListsOneOrNone A 80 159) ∷
-    (call.List 160 (lent 510 0), Exactly (says_list [])) ∷
-    (call.List 59 (lent 0 0), Exactly (says_refused 11)) ∷
-    (call.List 60 (lent 509 0), Exactly (says_refused 12)) ∷
-    (call.List 80 (lent 510 0), Exactly (says_refused 13)) ∷
+    (call.List 80 (areas_of 510 510), ListsOne A 80 159) ∷
+    (call.List 159 (areas_of 510 510), ListsOneOrNone A 80 159) ∷
+    (call.List 160 (areas_of 510 0), Exactly (says_list [])) ∷
+    (call.List 59 (areas_of 0 0), Exactly (says_refused 11)) ∷
+    (call.List 60 (areas_of 509 0), Exactly (says_refused 12)) ∷
+    (call.List 80 (areas_of 510 0), Exactly (says_refused 13)) ∷
     -- the oldest packet leaves the window
     (call.Packet B 1, Took 5) ∷
     (call.Estimate A, FromTo 70 149) ∷

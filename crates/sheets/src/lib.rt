@@ -1,4 +1,4 @@
-// The worked sheets of the counters and of the meter: proved of the rules, and run.
+// The worked sheets: proved of the rules and of the guarantee; those of the counters and one of the meter are run too.
 #![tactic(auto)]
 
 ghost use Rattle.std.specs.Prelude.{◌≡◌, List};
@@ -22,7 +22,7 @@ pub struct Answers {
     pub meter: MeterAnswers,
 }
 
-// Runs all sheets. The sheets follow from the rules, and the counters and the meter answer as they say.
+// Runs the sheets of the counters and of the meter. All sheets follow from the rules, and what is run answers as they say.
 // The rule for the place of an entry says what it should: on a line in order, behind the last entry whose group is not above.
 pub fn worked_sheets() -> Answers
     ensures sheets_stand { Sheets }

@@ -70,11 +70,7 @@ pub struct MeterAnswers {
 fn account(number: u32) -> Account
     ensures { result.number ≡ number }
 {
-    Account::of_code(Code {
-        high: 0,
-        low: u64::from(number),
-    })
-    .unwrap()
+    Account::new(u64::from(number)).unwrap()
 }
 
 // What a new meter answers to the plan of the sheet with this step.
