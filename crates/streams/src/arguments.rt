@@ -1,4 +1,4 @@
-// The arguments of the program.
+// What a run is asked for with, in words.
 ghost use Rattle.std.specs.Prelude.{◌≡◌, MatchOption, map};
 ghost use Rattle.std.specs.String.{string_bytes};
 ghost use Rattle.streams.specs.Words.{KindGiven, ArgumentsRead};
