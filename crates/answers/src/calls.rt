@@ -7,8 +7,6 @@ ghost use Rattle.sheets.specs.CounterSheets.{A};
 ghost use Rattle.sheets.specs.MeterSheets.{unplanned_state, planned_state};
 
 use flow::account::Account;
-use flow::code::Code;
-use flow::key::FlowKey;
 use flow::refusal::Refusal;
 use frame::plan::Plan;
 use meter::meter::Meter;
@@ -26,7 +24,7 @@ pub(crate) fn plan(plan: Plan) -> Result<(), Refusal>
 pub(crate) fn packet(weight: u32) -> Result<usize, Refusal>
     ensures { told result ≡ packet_answer semi_meaning planned_state A weight }
 {
-    let key = Account::of_code(Code { high: 0, low: 1 })?;
+    let key = Account::new(1)?;
     let mut meter = Meter::new(SemiOrdered::new());
     meter.plan(PLAN)?;
     meter.packet(&key, weight)

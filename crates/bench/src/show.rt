@@ -1,11 +1,12 @@
 // What is printed of a run.
+use flow::account::Account;
 use flow::counter::FrameCounter;
 use flow::refusal::Refusal;
 use frame::plan::Plan;
 use meter::meter::Meter;
 use std::io;
 use streams::arguments::Arguments;
-use streams::run::{Totals, key_of, perform};
+use streams::run::{Totals, perform};
 use streams::stream::Stream;
 
 // How many flows are shown at most.
@@ -45,7 +46,7 @@ fn show_estimates<C: FrameCounter>(
 ) -> io::Result<()> {
     for flow in 0..arguments.flows.min(SHOWN) {
         let volume = stream.volume_in_window(flow, arguments.packets, arguments.plan.window);
-        match key_of(flow).and_then(|key| meter.estimate(&key)) {
+        match Account::new(flow).and_then(|key| meter.estimate(&key)) {
             Ok(estimate) => println!(rt; "Flow {flow}: estimate {estimate}, true volume {volume}")?,
             Err(refusal) => show_refusal(rt, "An estimate", refusal)?,
         }

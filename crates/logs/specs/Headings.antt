@@ -1,7 +1,7 @@
 -- The heading of a log. Assumes nothing.
 --   behind         what follows the first so many words of a line
 --   nth            the word that comes next, empty where there is none
---   value_at       the number that it writes, cut to 32 bits
+--   value_at       the number that it writes, or the greatest of 32 bits where it is larger
 --   keys_text      the name of a kind of key
 --   KeysRead       the kind of key that a word names
 --   Numbers        a line begins with five whole numbers

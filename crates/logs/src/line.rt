@@ -1,5 +1,5 @@
 // The lines of a log behind its heading: packets, and calls by name.
-ghost use Rattle.std.specs.Prelude.{◌≡◌, Some};
+ghost use Rattle.std.specs.Prelude.{Some};
 ghost use Rattle.logs.specs.Lines.{FormRead, Ends, EstimateRead, PacketRead, CallRead, LineRead};
 ghost use Rattle.logs.specs.Failures.{reason};
 

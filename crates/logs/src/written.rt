@@ -18,7 +18,7 @@ pub trait WrittenKey: FlowKey + Drop {
     // the written form of the key with this code
     ghost text: { Coded → List ℕ };
 
-    // WritesByte the key.
+    // Writes the key.
     fn write<W: fmt::Write>(&self, f: &mut fmt::Formatter<W>) -> fmt::Result
         ensures { WritesOnOk W.write_str_gives f.old result (text (Self.coded self.now)) f.new };
 

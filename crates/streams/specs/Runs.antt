@@ -1,7 +1,6 @@
 -- Runs: the packets of a stream, metered in turn. Assumes nothing.
 --   accounts       one more than the greatest account number
 --   code_of        the code of a flow, an account
---   KeyRead        what the key of a flow is answered: the account of that number, or 14 where there is none
 --   none           no packets and no passes
 --   counted        with one more packet, of so many passes; a sum stops at the greatest number of 64 bits
 --   Outcome        how a run ends: the state of the meter, the packets accepted and the sum of their passes, and the number by which a packet was refused
@@ -11,12 +10,12 @@
 --   offer_leaves   the state of the meter after it
 --   run_from       the end of a run that takes so many packets from an index on, up to the first that is refused
 --   Performed      what a run is answered on a new meter over a counter: how it ends under the plan, or the number by which the plan was refused
-use Rattle.std.specs.Prelude.{◌≡◌, ℕ, zero, suc, ◌+◌, ◌-◌, ◌^◌, min, true, false, cond, Some, None, Ok, Err, Option, Result, nat_lt}
+use Rattle.std.specs.Prelude.{◌≡◌, ℕ, zero, suc, ◌+◌, ◌^◌, cond, Some, None, Ok, Err, Option, Result, nat_lt}
 use Rattle.std.specs.Option.{option_map}
+use Rattle.text.specs.Reading.{capped}
 use Rattle.flow.specs.Answers.{Answer, answered, refused}
 use Rattle.flow.specs.Meanings.{Meaning}
 use Rattle.flow.specs.Refusals.{number}
-use Rattle.flow.specs.declared.account.Account.{Account}
 use Rattle.flow.specs.declared.code.Code.{Code}
 use Rattle.flow.specs.declared.refusal.Refusal.{Refusal}
 use Rattle.frame.specs.declared.plan.Plan.{Plan}
@@ -34,15 +33,11 @@ accounts = 10 ^ 10
 abbrev pub code_of : ℕ → Code
 code_of flow = record { high = 0; low = flow }
 
-abbrev pub KeyRead : ℕ → Result Account Refusal → Type 0
-KeyRead flow (Ok k) = (nat_lt flow accounts ≡ true) × (k.number ≡ flow)
-KeyRead flow (Err e) = (nat_lt flow accounts ≡ false) × (number e ≡ 14)
-
 abbrev pub none : Totals
 none = record { packets = 0; passes = 0 }
 
 abbrev pub counted : Totals → ℕ → Totals
-counted t passes = record { packets = min (t.packets + 1) (2 ^ 64 - 1); passes = min (t.passes + passes) (2 ^ 64 - 1) }
+counted t passes = record { packets = capped 64 (t.packets + 1); passes = capped 64 (t.passes + passes) }
 
 pub record Outcome (X : Type 0) : Type 0 where
   pub state : State X

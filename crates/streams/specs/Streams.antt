@@ -1,13 +1,13 @@
 -- The made stream of packets. Assumes nothing.
---   binary_digits    how many binary digits a number has; 0 has none
---   among            how many of the flows, the first ones, that of a packet is drawn among: all of them, halved a number of times that is drawn below their binary digits, and at least one
---   flow_from        the flow of a packet, from two numbers drawn
---   weight_from      its weight, from one
---   packet_from      the packet of the three numbers drawn from a state on
---   packet_at        the packet of a stream at an index, counted from 0: three numbers were drawn for each before it
---   weight_of        its weight where it is of a flow, and else 0
---   volume_between   the weights of a flow's packets from an index on, so many packets
---   volume_in_window the same of the last so many packets before an index, or of all where there are fewer
+--   binary_digits      how many binary digits a number has; 0 has none
+--   among              how many of the flows, the first ones, that of a packet is drawn among: all of them, halved a number of times that is drawn below their binary digits, and at least one
+--   flow_from          the flow of a packet, from two numbers drawn
+--   weight_from        its weight, from one
+--   packet_from        the packet of the three numbers drawn from a state on
+--   packet_at          the packet of a stream at an index, counted from 0: three numbers were drawn for each before it
+--   weight_of          its weight where it is of a flow, and else 0
+--   volume_between     the weights of a flow's packets from an index on, so many packets
+--   volume_in_window   the same of the last so many packets before an index, or of all where there are fewer
 use Rattle.std.specs.Prelude.{ℕ, zero, suc, ◌+◌, ◌-◌, ◌*◌, ◌/◌, ◌%◌, ◌^◌, max, min, cond, ◌==◌}
 use Rattle.std.specs.Int.{w64, leading_zeros}
 use Rattle.streams.specs.Draws.{next_state, state_after, drawn}

@@ -1,4 +1,4 @@
-// The arguments of the program.
+// The words that ask for a run, and what they ask for.
 ghost use Rattle.std.specs.Prelude.{◌≡◌, MatchOption, map};
 ghost use Rattle.std.specs.String.{string_bytes};
 ghost use Rattle.streams.specs.Words.{KindGiven, ArgumentsRead};

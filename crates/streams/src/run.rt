@@ -4,13 +4,11 @@ ghost use Rattle.flow.specs.Answers.{told};
 ghost use Rattle.meter.specs.Ledgers.{Ledger};
 ghost use Rattle.meter.specs.Meters.{state_of};
 ghost use Rattle.meter.specs.Holding.{Holds};
-ghost use Rattle.streams.specs.Runs.{KeyRead, counted, none, offer_answer, offer_leaves, ended, run_from, Performed};
+ghost use Rattle.streams.specs.Runs.{counted, none, offer_answer, offer_leaves, ended, run_from, Performed};
 
 use crate::stream::{Packet, Stream};
 use flow::account::Account;
-use flow::code::Code;
 use flow::counter::FrameCounter;
-use flow::key::FlowKey;
 use flow::refusal::Refusal;
 use frame::plan::Plan;
 use meter::meter::Meter;
@@ -53,20 +51,13 @@ pub struct Run<C> {
     pub refusal: Option<Refusal>,
 }
 
-// The key of a flow, an account.
-pub fn key_of(flow: u64) -> Result<Account, Refusal>
-    ensures { KeyRead flow result }
-{
-    Account::of_code(Code { high: 0, low: flow })
-}
-
 // Meters a packet of a stream. Answers the counter's passes.
 fn offer<C: FrameCounter>(meter: &mut Meter<C>, packet: Packet) -> Result<usize, Refusal>
     ensures answer { (l : Ledger) → Holds C.meaning (state_of C.meaning meter.old) l → told result ≡ offer_answer C.meaning (state_of C.meaning meter.old) packet }
     ensures state { (l : Ledger) → Holds C.meaning (state_of C.meaning meter.old) l → state_of C.meaning meter.new ≡ offer_leaves C.meaning (state_of C.meaning meter.old) packet }
     ensures holds { (l : Ledger) → Holds C.meaning (state_of C.meaning meter.old) l → (n : Ledger) × Holds C.meaning (state_of C.meaning meter.new) n }
 {
-    let key = key_of(packet.flow)?;
+    let key = Account::new(packet.flow)?;
     meter.packet(&key, packet.weight)
 }
 

@@ -14,7 +14,7 @@
 --   second       the second
 --   third        the third
 --   capped       a number, or the greatest of so many bits where it is larger
---   Writes       a word of digits writes a number, cut to so many bits
+--   Writes       a word of digits writes a number, or the greatest of so many bits where it is larger
 use Rattle.std.specs.Prelude.{◌≡◌, ◌≢◌, ℕ, ◌+◌, ◌-◌, ◌^◌, min, Bool, not, ◌||◌, List, [], take, drop, Option, Some, None, ◌==◌}
 use Rattle.std.specs.List.{prefix_len}
 use Rattle.std.specs.Str.Parse.{digits_value, IsNumeral}

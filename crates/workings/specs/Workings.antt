@@ -1,11 +1,11 @@
 -- How a code comes to its entry or its count, who loses a place, and divisions, in words. Assumes nothing.
---   evicting        it evicts the first entry of a line
---   way_of          semi-ordered: it is held, it enters a line with room, or it evicts the first entry
---   shared_way_of   shared-deduction: it is held, it takes an empty place, or all places share
---   lost            the code that had the place before and has it no more
---   way_text        the rule that applies to a semi-ordered counter, in words
---   shared_way_text the rule that applies to a shared-deduction counter, in words
---   division_text   a number as a quotient times a step and a remainder, written out
+--   evicting          it evicts the first entry of a line
+--   way_of            semi-ordered: it is held, it enters a line with room, or it evicts the first entry
+--   shared_way_of     shared-deduction: it is held, it takes an empty place, or all places share
+--   lost              the code that had the place before and has it no more
+--   way_text          the rule that applies to a semi-ordered counter, in words
+--   shared_way_text   the rule that applies to a shared-deduction counter, in words
+--   division_text     a number as a quotient times a step and a remainder, written out
 use Rattle.std.specs.Prelude.{ℕ, cond, List, [], ◌∷◌, length, Some, None, Option, nat_lt, ◌++◌, codes}
 use Rattle.std.specs.Fmt.{decimal}
 use Rattle.flow.specs.Codes.{same}

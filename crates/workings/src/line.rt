@@ -1,6 +1,6 @@
 // The lines of an input: a heading, then a packet on each line.
 ghost use Rattle.std.specs.Prelude.{◌≡◌, Some, MatchOption};
-ghost use Rattle.std.specs.Str.Parse.{digits_value, IsNumeral};
+ghost use Rattle.std.specs.Str.Parse.{digits_value};
 ghost use Rattle.workings.specs.Lines.{IsName, PacketRead, SizesRead, HeadingRead, reason};
 
 use flow::account::Account;
@@ -123,6 +123,5 @@ fn named_account(word: &[u8]) -> Option<Account>
     if word.len() > NAME_DIGITS {
         return None;
     }
-    let low = number(word)?;
-    Account::of_code(Code { high: 0, low }).ok()
+    Account::new(number(word)?).ok()
 }

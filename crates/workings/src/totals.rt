@@ -1,5 +1,5 @@
 // The true volume of each flow.
-ghost use Rattle.std.specs.Prelude.{◌≡◌, [], OnOk};
+ghost use Rattle.std.specs.Prelude.{◌≡◌, [], OnOk, OnErr};
 ghost use Rattle.workings.specs.Volumes.{tallied};
 
 use crate::line::Packet;
@@ -25,7 +25,8 @@ impl Totals {
 
     // Counts a packet of a flow. An insert promises the entries in their order, where an entry's write promises the values alone.
     pub fn add(&mut self, packet: Packet) -> Result<(), AllocError>
-        ensures { OnOk result (self.new.flows.entries ≡ tallied packet.code packet.weight self.old.flows.entries) }
+        ensures counted { OnOk result (self.new.flows.entries ≡ tallied packet.code packet.weight self.old.flows.entries) }
+        ensures kept { OnErr result (self.new.flows.entries ≡ self.old.flows.entries) }
     {
         let Packet { code, weight } = packet;
         let volume = self.flows.get(&code).copied().unwrap_or(0);

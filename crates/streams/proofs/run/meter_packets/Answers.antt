@@ -1,4 +1,4 @@
-use Rattle.std.proofs.Common.{◌≡◌, ℕ, suc, ◌+◌, ◌-◌, Bool, true, false, cond, Some, refl, sym, ap, ◌∙◌, arith}
+use Rattle.std.proofs.Common.{◌≡◌, ℕ, suc, ◌+◌, ◌-◌, ◌<◌, Bool, true, false, cond, Some, refl, sym, ap, ◌∙◌, arith}
 use Rattle.flow.specs.Answers.{Answer, answered, refused, told, after}
 use Rattle.flow.specs.Meanings.{Meaning}
 use Rattle.flow.specs.Refusals.{number}
@@ -12,15 +12,13 @@ use Rattle.streams.specs.Runs.{code_of, counted, going, offer_answer, offer_leav
 use Rattle.streams.proofs.run.meter_packets.Goals as goal
 
 module _ {C : Type 0} (m : Meaning C) (stream : Stream) where
-  -- a packet is accepted, and the run goes on
-  goes : (n i : ℕ) (s : State m.Model) (t : Totals) (x : ℕ) → offer_answer m s (packet_at stream i) ≡ answered x →
-      run_from m stream (suc n) i s t ≡ run_from m stream n (i + 1) (offer_leaves m s (packet_at stream i)) (counted t x)
-  goes n i s t x e = ap (λ (a : Answer ℕ). going a s t (λ passes. run_from m stream n (i + 1) (offer_leaves m s (packet_at stream i)) (counted t passes))) e
-
-  -- a packet is refused, and the run ends
-  stops : (n i : ℕ) (s : State m.Model) (t : Totals) (r : ℕ) → offer_answer m s (packet_at stream i) ≡ refused r →
-      run_from m stream (suc n) i s t ≡ record { state = s; totals = t; refusal = Some r }
-  stops n i s t r e = ap (λ (a : Answer ℕ). going a s t (λ passes. run_from m stream n (i + 1) (offer_leaves m s (packet_at stream i)) (counted t passes))) e
+  -- the run takes a packet: it goes on, or it ends
+  takes : (packets i : ℕ) (s : State m.Model) (t : Totals) (p : Packet) (a : Answer ℕ) → i < packets → p ≡ packet_at stream i → a ≡ offer_answer m s p →
+      run_from m stream (packets - i) i s t ≡ going a s t (λ passes. run_from m stream (packets - (i + 1)) (i + 1) (offer_leaves m s p) (counted t passes))
+  takes packets i s t p a below p-is a-is =
+      let left : packets - i ≡ suc (packets - (i + 1)) = omega (arith, below) in
+      ap (λ (n : ℕ). run_from m stream n i s t) left ∙
+      (λ j. going (sym (a-is ∙ ap (offer_answer m s) p-is) j) s t (λ passes. run_from m stream (packets - (i + 1)) (i + 1) (offer_leaves m s (sym p-is j)) (counted t passes)))
 
   -- a refused packet leaves the state as it was
   unmoved : (s : State m.Model) (p : Packet) (r : ℕ) → offer_answer m s p ≡ refused r → offer_leaves m s p ≡ s
@@ -39,19 +37,14 @@ loop-index-init g c y h =
 pub returns-in-Err : goal.returns-in-Err
 returns-in-Err g c y h =
     let m = g.C.FrameCounter.meaning in
-    let stream = c.args.stream.now in
-    let i = c.loop-index.index in
     let s = state_of m c.loop-index.meter in
     let t = c.loop-index.totals in
-    let p = packet_at stream i in
+    let p = c.packet.result in
     let inv = c.loop-index.invariant y h in
     let r = number c.in-Err.refusal in
-    let answer : offer_answer m s p ≡ refused r = sym (ap told (sym c.in-Err.is) ∙ c.offer.ensures.answer inv.0.0 inv.0.1 ∙ ap (offer_answer m s) c.packet.ensures) in
-    let state : state_of m c.offer.new.meter ≡ s = c.offer.ensures.state inv.0.0 inv.0.1 ∙ ap (offer_leaves m s) c.packet.ensures ∙ unmoved m stream s p r answer in
-    let left : c.args.packets - i ≡ suc (c.args.packets - (i + 1)) = omega (arith, c.loop-index-test.true) in
-    ap (λ (z : State m.Model). record { state = z; totals = t; refusal = Some r }) state ∙
-    sym (stops m stream (c.args.packets - (i + 1)) i s t r answer) ∙
-    sym (ap (λ (n : ℕ). run_from m stream n i s t) left) ∙
+    let answer : refused r ≡ offer_answer m s p = ap told (sym c.in-Err.is) ∙ c.offer.ensures.answer inv.0.0 inv.0.1 in
+    ap (λ (z : State m.Model). record { state = z; totals = t; refusal = Some r }) (c.offer.ensures.state inv.0.0 inv.0.1 ∙ unmoved m c.args.stream.now s p r (sym answer)) ∙
+    sym (takes m c.args.stream.now c.args.packets c.loop-index.index s t p (refused r) c.loop-index-test.true c.packet.ensures answer) ∙
     inv.1
 
 pub loop-index-preserved : goal.loop-index-preserved
@@ -60,17 +53,11 @@ loop-index-preserved g c y h =
     let stream = c.args.stream.now in
     let i = c.loop-index.index in
     let s = state_of m c.loop-index.meter in
-    let t = c.loop-index.totals in
-    let p = packet_at stream i in
     let inv = c.loop-index.invariant y h in
-    let x = c.in-Ok.passes in
-    let answer : offer_answer m s p ≡ answered x = sym (ap told (sym c.in-Ok.is) ∙ c.offer.ensures.answer inv.0.0 inv.0.1 ∙ ap (offer_answer m s) c.packet.ensures) in
-    let state : state_of m c.offer.new.meter ≡ offer_leaves m s p = c.offer.ensures.state inv.0.0 inv.0.1 ∙ ap (offer_leaves m s) c.packet.ensures in
-    let left : c.args.packets - i ≡ suc (c.args.packets - (i + 1)) = omega (arith, c.loop-index-test.true) in (
+    let answer : answered c.in-Ok.passes ≡ offer_answer m s c.packet.result = ap told (sym c.in-Ok.is) ∙ c.offer.ensures.answer inv.0.0 inv.0.1 in (
       c.offer.ensures.holds inv.0.0 inv.0.1,
-      ((λ j. run_from m stream (c.args.packets - (i + 1)) (i + 1) (state j) (c.with-totals.ensures j)) ∙
-          sym (goes m stream (c.args.packets - (i + 1)) i s t x answer) ∙
-          sym (ap (λ (n : ℕ). run_from m stream n i s t) left) ∙
+      ((λ j. run_from m stream (c.args.packets - (i + 1)) (i + 1) (c.offer.ensures.state inv.0.0 inv.0.1 j) (c.with-totals.ensures j)) ∙
+          sym (takes m stream c.args.packets i s c.loop-index.totals c.packet.result _ c.loop-index-test.true c.packet.ensures answer) ∙
           inv.1),
     )
 

@@ -14,8 +14,8 @@ module _ (test : Code → Code → Bool) (tells : (a b : Code) → test a b ≡ 
   added [] = ap (λ (n : ℕ). (k, n) ∷ []) (omega arith)
   added (t ∷ ts) = grind (arith, tells k t.0, same_true t.0 k, added ts)
 
-pub returns : goal.returns
-returns c =
+pub returns-clause-counted : goal.returns-clause-counted
+returns-clause-counted c =
     let ts = c.args.self.now.flows.entries in
     let test = (Rattle.flow.specs.contracts.code.CodePartialEq.TheImpl.eq-value).it in
     let v : c.unwrap_or-volume.result ≡ unwrap_or (lookup (test c.args.packet.code) ts) 0 =
