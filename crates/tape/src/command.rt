@@ -1,8 +1,8 @@
 // Commands on a tape.
-ghost use Rattle.std.specs.Prelude.{◌≡◌, ◌+◌, length, take, drop, IfOk};
+ghost use Rattle.std.specs.Prelude.{◌≡◌, ◌+◌, ◌∷◌, length, take, drop, IfOk};
 ghost use Rattle.flow.specs.Answers.{told, answer_map};
 ghost use Rattle.flow.specs.Spellings.{be16, be32, be64};
-ghost use Rattle.tape.specs.Commands.{plan_bytes, level_bytes, weight_bytes, plan_of, command_map, due, command_at, size};
+ghost use Rattle.tape.specs.Commands.{plan_bytes, level_bytes, weight_bytes, plan_of, command_map, due, command_named, command_at, size};
 
 use flow::key::FlowKey;
 use flow::refusal::Refusal;
@@ -129,7 +129,53 @@ fn read_key<K: FlowKey>(bytes: &[u8]) -> Result<(&[u8], &[u8]), Refusal>
         .ok_or(Refusal::TapeEnds)
 }
 
+// The key and the weight at the front of some bytes, and what follows them.
+fn read_packet<K: FlowKey>(bytes: &[u8]) -> Result<(&[u8], u32, &[u8]), Refusal>
+    ensures key { answer_map (λ p. p.0.now) (told result) ≡ due (K.BYTES + weight_bytes) bytes.now (take K.BYTES bytes.now) }
+    ensures weight { answer_map (λ p. p.1) (told result) ≡ due (K.BYTES + weight_bytes) bytes.now (be32 bytes.now K.BYTES) }
+    ensures rest { IfOk result (λ p. p.2.now ≡ drop (K.BYTES + weight_bytes) bytes.now) }
+    ensures whole { IfOk result (λ p. K.BYTES + weight_bytes + length p.2.now ≡ length bytes.now) }
+{
+    let (key, after) = read_key::<K>(bytes)?;
+    let (weight, rest) = read_weight(after)?;
+    Ok((key, weight, rest))
+}
+
 impl<'a> Command<&'a [u8]> {
+    // The command of this first byte, with its operands, and what follows them.
+    fn read_named<K: FlowKey>(byte: u8, operands: &'a [u8]) -> Result<(Self, &'a [u8]), Refusal>
+        ensures command { answer_map (λ p. command_map (λ key. key.now) p.0) (told result) ≡ command_named K.BYTES byte operands.now }
+        ensures rest { IfOk result (λ p. p.1.now ≡ drop (size K.BYTES p.0) (byte ∷ operands.now)) }
+        ensures whole { IfOk result (λ p. size K.BYTES p.0 + length p.1.now ≡ length operands.now + 1) }
+    {
+        match byte {
+            PLAN => {
+                let (plan, rest) = read_plan(operands)?;
+                Ok((Command::Plan(plan), rest))
+            }
+            PACKET => {
+                let (key, weight, rest) = read_packet::<K>(operands)?;
+                Ok((Command::Packet(key, weight), rest))
+            }
+            ESTIMATE => {
+                let (key, rest) = read_key::<K>(operands)?;
+                Ok((Command::Estimate(key), rest))
+            }
+            LIST => Ok((Command::List, operands)),
+            RESTART => Ok((Command::Restart, operands)),
+            LEVEL => {
+                let (level, rest) = read_level(operands)?;
+                Ok((Command::Level(level), rest))
+            }
+            TRIAL => {
+                let (level, rest) = read_level(operands)?;
+                Ok((Command::Trial(level), rest))
+            }
+            CLOSE => Ok((Command::Close, operands)),
+            _ => Err(Refusal::KindOrCommandUnknown),
+        }
+    }
+
     // The command at the front of some bytes of a tape, and what follows it.
     pub fn read<K: FlowKey>(tape: &'a [u8]) -> Result<(Self, &'a [u8]), Refusal>
         ensures command { answer_map (λ p. command_map (λ key. key.now) p.0) (told result) ≡ command_at K.BYTES tape.now }
@@ -137,32 +183,8 @@ impl<'a> Command<&'a [u8]> {
         ensures whole { IfOk result (λ p. size K.BYTES p.0 + length p.1.now ≡ length tape.now) }
     {
         match tape {
-            [PLAN, operands @ ..] => {
-                let (plan, rest) = read_plan(operands)?;
-                Ok((Command::Plan(plan), rest))
-            }
-            [PACKET, operands @ ..] => {
-                let (key, after) = read_key::<K>(operands)?;
-                let (weight, rest) = read_weight(after)?;
-                Ok((Command::Packet(key, weight), rest))
-            }
-            [ESTIMATE, operands @ ..] => {
-                let (key, rest) = read_key::<K>(operands)?;
-                Ok((Command::Estimate(key), rest))
-            }
-            [LIST, rest @ ..] => Ok((Command::List, rest)),
-            [RESTART, rest @ ..] => Ok((Command::Restart, rest)),
-            [LEVEL, operands @ ..] => {
-                let (level, rest) = read_level(operands)?;
-                Ok((Command::Level(level), rest))
-            }
-            [TRIAL, operands @ ..] => {
-                let (level, rest) = read_level(operands)?;
-                Ok((Command::Trial(level), rest))
-            }
-            [CLOSE, rest @ ..] => Ok((Command::Close, rest)),
+            [byte, operands @ ..] => Self::read_named::<K>(*byte, operands),
             [] => Err(Refusal::TapeEnds),
-            [_, ..] => Err(Refusal::KindOrCommandUnknown),
         }
     }
 }
