@@ -1,11 +1,13 @@
 // What a sitting does at a command that was read.
-ghost use Rattle.std.specs.Prelude.{◌≡◌, ℕ, length, IfOk};
+ghost use Rattle.std.specs.Prelude.{◌≡◌, ℕ, ◌≤◌, length, IfOk};
 ghost use Rattle.flow.specs.Answers.{told, answer_map};
 ghost use Rattle.flow.specs.Keys.{read_answer};
+ghost use Rattle.flow.specs.Limits.{most_marks};
 ghost use Rattle.meter.specs.declared.day.Call.TheVariants as call;
 ghost use Rattle.meter.specs.Holding.{Holds};
 ghost use Rattle.meter.specs.Ledgers.{Ledger};
 ghost use Rattle.meter.specs.Meters.{state_of};
+ghost use Rattle.meter.specs.States.{list_answer, count_of, table_leaves, scratch_leaves};
 ghost use Rattle.sitting.specs.Courses.{calls, asked, stage_after};
 ghost use Rattle.sitting.specs.Lines.{ListStands};
 ghost use Rattle.sitting.specs.Sittings.{course_of, UnderLedgers, with_count, lent};
@@ -53,6 +55,24 @@ fn tell_estimate<K: FlowKey + Drop, C: FrameCounter>(
 {
     let key = K::read(key)?;
     meter.estimate(&key).map(Reply::Estimated)
+}
+
+// Lists at a level that stands for this list alone.
+fn list_on_trial<C: FrameCounter>(
+    meter: &Meter<C>,
+    settings: &mut Settings,
+    level: u64,
+    scratch: &mut [u8],
+    table: &mut [Record],
+) -> Result<usize, Refusal>
+    ensures answer { told result ≡ count_of (list_answer C.meaning (state_of C.meaning meter.now) level (length scratch.old) (length table.old)) }
+    ensures table { table.new ≡ table_leaves (list_answer C.meaning (state_of C.meaning meter.now) level (length scratch.old) (length table.old)) table.old }
+    ensures scratch { scratch.new ≡ scratch_leaves (list_answer C.meaning (state_of C.meaning meter.now) level (length scratch.old) (length table.old)) scratch.old }
+    ensures few { IfOk result (λ n. n ≤ most_marks) }
+    ensures settings { settings.new ≡ settings.old }
+{
+    let trial = TrialLevel::new(settings, level);
+    meter.list(trial.level(), scratch, table)
 }
 
 impl<K: FlowKey + Drop, C: FrameCounter> Sitting<K, C> {
@@ -104,8 +124,7 @@ impl<K: FlowKey + Drop, C: FrameCounter> Sitting<K, C> {
                 Ok(Reply::LevelSet(level))
             }
             (Stage::Planned(settings), Command::Trial(level)) => {
-                let trial = TrialLevel::new(settings, level);
-                let count = self.meter.list(trial.level(), scratch, table)?;
+                let count = list_on_trial(&self.meter, settings, level, scratch, table)?;
                 Ok(Reply::Tried(level, count))
             }
             (Stage::Planned(_), Command::Close) => {
