@@ -937,16 +937,21 @@ fn lines_of(heap: Global, tape: &[u8], areas: Areas) -> Result<Vec<u8>, AllocErr
     mark(heap, tape, &mut text, &mut scratch, &mut table)
 }
 
+// Marks the tape of a case, and compares its lines.
+fn mark_case(rt: &impl Abort, heap: Global, areas: Areas, case: &str) -> Result<(), Fail> {
+    let (name, rest) = case.split_once("\ntape").ok_or("no tape")?;
+    let (tape, lines) = rest.split_once('\n').ok_or("no lines")?;
+    let marked = lines_of(heap, &bytes_of(heap, tape)?, areas)?;
+    let due = format!(in heap; "{lines}\n")?;
+    assert_eq!(rt; str::from_utf8(&marked)?, due.as_str(), "{name}");
+    Ok(())
+}
+
 // Marks each case, and answers how many there are.
 fn mark_cases(rt: &impl Abort, heap: Global, areas: Areas, cases: &str) -> Result<u32, Fail> {
     let mut count = 0u32;
     for case in cases.split("\n\n") {
-        let (name, rest) = case.split_once("\ntape").ok_or("no tape")?;
-        let (tape, lines) = rest.split_once('\n').ok_or("no lines")?;
-        let tape = bytes_of(heap, tape)?;
-        let marked = lines_of(heap, &tape, areas)?;
-        let due = format!(in heap; "{lines}\n")?;
-        assert_eq!(rt; str::from_utf8(&marked)?, due.as_str(), "{name}");
+        mark_case(rt, heap, areas, case)?;
         count = count.saturating_add(1);
     }
     Ok(count)
@@ -960,7 +965,13 @@ fn tapes_are_marked(rt: HostRuntime) -> Result<(), Fail> {
         count = count.saturating_add(mark_cases(&rt, heap, areas, cases)?);
     }
     assert_eq!(rt; count, 89);
-    // The greatest length of a tape, and a byte more: where the length is right, the first byte names no kind.
+    Ok(())
+}
+
+// The greatest length of a tape, and a byte more: where the length is right, the first byte names no kind.
+#[test]
+fn the_longest_tape_is_read(rt: HostRuntime) -> Result<(), Fail> {
+    let heap = rt.alloc();
     for (length, due) in [
         (65_536, "no 15 0\nbroken 0 0\n"),
         (65_537, "no 19 0\nbroken 0 0\n"),
@@ -998,6 +1009,39 @@ const LISTED: Record = Record {
     estimate: 60,
 };
 
+// The lines stand in front of the text area, which is as it was behind them.
+fn look_at_text(
+    rt: &impl Abort,
+    call: &Call,
+    answer: Result<usize, Refusal>,
+    text: &[u8],
+) -> Result<(), Fail> {
+    let (lines, behind) = text
+        .split_at_checked(answer.unwrap_or(0))
+        .ok_or("too many lines")?;
+    let answer = match answer {
+        Ok(_) => Ok(str::from_utf8(lines)?),
+        Err(refusal) => Err(refusal),
+    };
+    assert_eq!(rt; answer, call.answer);
+    assert!(rt; behind.iter().all(|byte| *byte == BYTE));
+    Ok(())
+}
+
+// A list clears the scratch and stands in front of the table. Any other call leaves both as they were.
+fn look_at_list(rt: &impl Abort, call: &Call, scratch: &[u8], table: &[Record]) {
+    let left = call.list.map_or(BYTE, |_| 0);
+    assert!(rt; scratch.iter().all(|byte| *byte == left));
+    let records = call.list.unwrap_or(&[]);
+    assert!(rt; table.starts_with(records));
+    assert!(rt;
+        table
+            .iter()
+            .skip(records.len())
+            .all(|record| *record == RECORD)
+    );
+}
+
 // Makes a call with new areas, and looks at every place of them behind it.
 fn make_call(
     rt: &impl Abort,
@@ -1010,23 +1054,8 @@ fn make_call(
     let mut scratch = vec![in heap; BYTE; call.areas.scratch]?;
     let mut table = vec![in heap; RECORD; call.areas.table]?;
     let answer = sitting.command(&tape, &mut text, &mut scratch, &mut table);
-    let (lines, behind) = text.split_at(answer.unwrap_or(0));
-    let answer = match answer {
-        Ok(_) => Ok(str::from_utf8(lines)?),
-        Err(refusal) => Err(refusal),
-    };
-    assert_eq!(rt; answer, call.answer);
-    assert!(rt; behind.iter().all(|byte| *byte == BYTE));
-    let left = call.list.map_or(BYTE, |_| 0);
-    assert!(rt; scratch.iter().all(|byte| *byte == left));
-    let records = call.list.unwrap_or(&[]);
-    assert!(rt; table.starts_with(records));
-    assert!(rt;
-        table
-            .iter()
-            .skip(records.len())
-            .all(|record| *record == RECORD)
-    );
+    look_at_text(rt, call, answer, &text)?;
+    look_at_list(rt, call, &scratch, &table);
     Ok(())
 }
 
