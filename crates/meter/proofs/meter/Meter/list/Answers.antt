@@ -1,5 +1,6 @@
+use Rattle.std.proofs.lemmas.Grind.{common_steps}
 -- The records in front of the table are the list by the rules.
-use Rattle.std.proofs.Common.{◌≡◌, ◌++◌, length, take, drop, Option, refl, sym, ap, ◌∙◌, subst}
+use Rattle.std.proofs.Common.{◌≡◌, ◌++◌, length, take, drop, Option, refl, sym, ap, ◌∙◌, subst, arith}
 use Rattle.meter.specs.declared.meter.Window.{Window}
 use Rattle.meter.specs.Guarantees.{ListsUnder}
 use Rattle.meter.specs.States.{list_in}
@@ -21,3 +22,12 @@ returns-clause-bounds g c =
     let written : c.copy_from_slice.new.self ≡ rs = c.copy_from_slice.ensures.after ∙ c.deref.ensures.0 ∙ c.records-records.ensures in
     let front = ap (λ xs. take n (xs ++ behind)) written ∙ taken-front rs behind n (c.len-count.ensures.value ∙ ap length c.records-records.ensures) in
     λ l h. subst (ListsUnder l.plan l.roll c.args.level) (sym front) (list_right m s p c.args.level refl high l (subst (λ (w : Option Window). Holds m (state_in m x w) l) c.in-Some.is h))
+
+pub returns-then-table-count-clause-scratch : goal.returns-then-table-count-clause-scratch
+returns-then-table-count-clause-scratch g c = grind (arith, common_steps)
+
+pub returns-clause-scratch : goal.returns-clause-scratch
+returns-clause-scratch g c = grind (arith, common_steps)
+
+pub returns-clause-cleared : goal.returns-clause-cleared
+returns-clause-cleared g c = grind (arith, common_steps)

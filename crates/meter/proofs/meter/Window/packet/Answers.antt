@@ -1,3 +1,4 @@
+use Rattle.std.proofs.lemmas.Grind.{common_steps}
 -- The steps of a packet of lawful weight, one after the other.
 use Rattle.std.proofs.Common.{◌≡◌, ℕ, ◌≤◌, IfOk, Some, Result, sym, refl, ap, ◌∙◌, subst, arith}
 use Rattle.std.proofs.lemmas.Bool.Decides.{nat_tests}
@@ -51,3 +52,12 @@ returns g c = record {
   few_passes = λ l h. subst (λ (r : Result ℕ Refusal). IfOk r (λ x. x ≤ places_of l.plan)) (sym (done g c l h).took) (done g c l h).few;
   refusals = λ n h. absurd (grind (arith, nat_tests, h, ap (λ (q : Plan). q.most) c.plan.ensures));
 }
+
+pub returns-then-weight-plan-clause-state : goal.returns-then-weight-plan-clause-state
+returns-then-weight-plan-clause-state g c = grind (arith, common_steps)
+
+pub returns-then-weight-plan-clause-unchanged : goal.returns-then-weight-plan-clause-unchanged
+returns-then-weight-plan-clause-unchanged g c = grind (arith, common_steps)
+
+pub returns-then-weight-plan-clause-refusals : goal.returns-then-weight-plan-clause-refusals
+returns-then-weight-plan-clause-refusals g c = grind (arith, common_steps)
