@@ -1,6 +1,7 @@
 -- The packets of a tape have at most five digits, and their volume at most fifteen.
 use Rattle.std.proofs.Common.{◌≤◌, length, ap, arith, length-append}
 use Rattle.std.proofs.lemmas.Fmt.{length-decimal-le}
+use Rattle.std.proofs.lemmas.Grind.{common_steps}
 use Rattle.std.specs.Fmt.{decimal}
 use Rattle.sitting.proofs.lines.last_line.Goals as goal
 use Rattle.sitting.proofs.lines.last_line.Goals.{in-Closed, in-Broken}
@@ -14,3 +15,6 @@ paste_line-end-requires c =
     let five : length (decimal c.args.packets) ≤ 5 = length-decimal-le 5 c.args.packets (omega arith) (omega arith) (omega arith) in
     let fifteen : length (decimal c.args.volume) ≤ 15 = length-decimal-le 15 c.args.volume (omega arith) (omega arith) (omega arith) in
     simp length-append (omega arith)
+
+pub returns-clause-line : goal.returns-clause-line
+returns-clause-line g = grind (arith, common_steps)

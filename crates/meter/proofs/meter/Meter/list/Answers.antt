@@ -1,6 +1,6 @@
-use Rattle.std.proofs.lemmas.Grind.{common_steps}
 -- The records in front of the table are the list by the rules.
 use Rattle.std.proofs.Common.{◌≡◌, ◌++◌, length, take, drop, Option, refl, sym, ap, ◌∙◌, subst, arith}
+use Rattle.std.proofs.lemmas.Grind.{common_steps}
 use Rattle.meter.specs.declared.meter.Window.{Window}
 use Rattle.meter.specs.Guarantees.{ListsUnder}
 use Rattle.meter.specs.States.{list_in}

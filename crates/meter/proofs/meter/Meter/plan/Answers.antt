@@ -1,6 +1,6 @@
-use Rattle.std.proofs.lemmas.Grind.{common_steps}
 -- What an accepted plan leaves is what the ledger says then.
 use Rattle.std.proofs.Common.{◌≡◌, sym, subst, rules, arith}
+use Rattle.std.proofs.lemmas.Grind.{common_steps}
 use Rattle.meter.specs.Ledgers.{planned}
 use Rattle.meter.specs.States.{State, plan_leaves}
 use Rattle.meter.specs.Meters.{windowed, state_of}

@@ -1,7 +1,7 @@
-use Rattle.std.proofs.lemmas.Grind.{common_steps}
 -- The steps of a packet of lawful weight, one after the other.
 use Rattle.std.proofs.Common.{◌≡◌, ℕ, ◌≤◌, IfOk, Some, Result, sym, refl, ap, ◌∙◌, subst, arith}
 use Rattle.std.proofs.lemmas.Bool.Decides.{nat_tests}
+use Rattle.std.proofs.lemmas.Grind.{common_steps}
 use Rattle.flow.specs.Answers.{Unchanged}
 use Rattle.flow.specs.declared.refusal.Refusal.{Refusal}
 use Rattle.frame.specs.declared.layout.Layout.{Layout}

@@ -1,0 +1,6 @@
+use Rattle.std.proofs.Common.{arith}
+use Rattle.std.proofs.lemmas.Grind.{common_steps}
+use Rattle.logs.proofs.log.level_of.Goals as goal
+
+pub returns : goal.returns
+returns g = grind (arith, common_steps)
