@@ -13,7 +13,7 @@
 --   accepted        the weight of the packet that a command and its answer accept, if they do
 --   advanced        the course after a command that was read, with its answer, and with the meter after it
 --   broken          the course after bytes that could not be read
-use Rattle.std.specs.Prelude.{ℕ, ◌+◌, ◌*◌, List, Some, None, Option}
+use Rattle.std.specs.Prelude.{ℕ, ◌+◌, List, Some, None, Option}
 use Rattle.flow.specs.Answers.{Answer, answered, refused, answer_map}
 use Rattle.flow.specs.Keys.{read_answer}
 use Rattle.flow.specs.declared.code.Code.{Code}

@@ -1,4 +1,5 @@
-use Rattle.std.proofs.Common.{length, refl, ap, sym, ◌∙◌}
+use Rattle.std.proofs.Common.{length, refl, ap, sym, ◌∙◌, arith}
+use Rattle.std.proofs.lemmas.Grind.{common_steps}
 use Rattle.flow.specs.Answers.{answered}
 use Rattle.flow.specs.Refusals.{number}
 use Rattle.flow.proofs.Inside.{refused_not}
@@ -54,3 +55,9 @@ returns-in-Err g c =
           next_holds m met.opens met.flushes met.adds met.heavy g.K.FlowKey.spelled areas g.K.FlowKey.BYTES g.K.TapeKind.NUMBER g.C.TapeKind.NUMBER c.args.tape.now (length c.args.text.now) s _ l (follows_next t printed).course_is h;
       within = c.print_refusal.ensures.within;
     }
+
+pub returns-in-Done-clause-turn : goal.returns-in-Done-clause-turn
+returns-in-Done-clause-turn g c = grind (arith, common_steps)
+
+pub returns-in-Done-clause-refusals : goal.returns-in-Done-clause-refusals
+returns-in-Done-clause-refusals g c = grind (arith, common_steps)
