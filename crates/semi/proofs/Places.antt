@@ -1,6 +1,6 @@
 -- The place of a code, and the place of a group.
-use Rattle.std.proofs.Common.{◌≡◌, ℕ, zero, suc, ◌+◌, ◌-◌, ◌<◌, ◌≤◌, Bool, true, false, leb, Option, Some, None, is_some, MatchOption, List, [], ◌∷◌, ◌++◌, length, get_or, take, drop, set, sym, refl, ap, ◌∙◌, add-one, append_assoc, arith}
-use Rattle.std.specs.List.{prefix_len}
+use Rattle.std.proofs.Common.{◌≡◌, ℕ, zero, suc, ◌+◌, ◌-◌, ◌<◌, ◌≤◌, Bool, true, false, leb, Option, Some, None, is_some, MatchOption, List, [], ◌∷◌, ◌++◌, length, get_or, take, drop, set, sym, refl, ap, ◌∙◌, add-one, arith}
+use Rattle.std.specs.List.{copy_within, insert, prefix_len}
 use Rattle.std.specs.List.Sorted.{IsNonDecreasingBy, IsPartitionPoint}
 use Rattle.semi.specs.Line.{AtLeast, Rising, blank, holds, placed, rest}
 use Rattle.semi.specs.declared.entry.Entry.{Entry}
@@ -10,7 +10,8 @@ use Rattle.flow.specs.Codes.{same}
 use Rattle.flow.specs.declared.code.Code.{Code}
 use Rattle.std.proofs.lemmas.Bool.{cond-false, cond-true, leb-false, lt-leb}
 use Rattle.std.proofs.lemmas.List.Sums.{prefix_len_passes, prefix_len_stops}
-use Rattle.std.proofs.lemmas.List.{take_all, take_more}
+use Rattle.std.proofs.lemmas.List.{append-nil, drop_all, length-append, take_all, take_at, take_more}
+use Rattle.std.proofs.Math.Seq.{paste}
 
 -- a search for a code, one entry on
 pub holds_more : (k : Code) (xs : List Entry) (i : ℕ) → i < length xs → holds k (take i xs) ≡ false → same (get_or xs i blank).code k ≡ false → holds k (take (i + 1) xs) ≡ false
@@ -73,11 +74,34 @@ pub rising_later : (xs : List Entry) → 0 < length xs → Rising xs → Rising 
 rising_later [] l r = absurd (omega arith)
 rising_later (x ∷ xs) l r = (r.1, r.0)
 
--- what the rotation leaves
-pub settled : (xs : List Entry) (new : Entry) (i : ℕ) (out : List Entry) → 0 < length xs → Parts new.group i (rest xs) →
-    out ≡ drop 1 (take (i + 1) (set xs 0 new)) ++ take 1 (take (i + 1) (set xs 0 new)) → out ++ drop (i + 1) (set xs 0 new) ≡ placed new (rest xs)
-settled [] new i out l p e = absurd (omega arith)
-settled (x ∷ xs) new i out l p e =
-    let a : out ≡ take i xs ++ new ∷ [] = rw add-one at e in
-    let b : drop (i + 1) (new ∷ xs) ≡ drop i xs = rw add-one refl in
-    ap (λ (ys : List Entry). ys ++ drop (i + 1) (new ∷ xs)) a ∙ ap (λ (ys : List Entry). (take i xs ++ new ∷ []) ++ ys) b ∙ append_assoc (take i xs) (new ∷ []) (drop i xs) ∙ sym (placed_at new xs i p)
+-- what `settle` leaves: the first i of the others a place lower, and then `new`
+pub settled : (xs : List Entry) (new : Entry) (i : ℕ) (out : List Entry) → 0 < length xs → i ≤ length (rest xs) → Parts new.group i (rest xs) →
+    out ≡ copy_within xs 1 (i + 1) 0 → set out i new ≡ placed new (rest xs)
+settled [] new i out l w p e = absurd (omega arith)
+settled (x ∷ xs) new i out l w p e =
+    let n : (i + 1) - 1 ≡ i = omega arith in
+    let z : 0 + i ≡ i = omega arith in
+    ap (λ (ys : List Entry). set ys i new) e ∙ ap (λ (m : ℕ). set (paste (x ∷ xs) 0 xs m) i new) n ∙ ap (λ (m : ℕ). set (take i xs ++ drop m (x ∷ xs)) i new) z ∙
+    lowered x xs i w ∙ sym (placed_at new xs i p)
+  where
+    lowered : (x : Entry) (xs : List Entry) (i : ℕ) → i ≤ length xs → set (take i xs ++ drop i (x ∷ xs)) i new ≡ take i xs ++ new ∷ drop i xs
+    lowered x xs zero l = refl
+    lowered x [] (suc i) l = absurd (omega arith)
+    lowered x (y ∷ xs) (suc i) l = ap {B = List Entry} (λ ys. y ∷ ys) (lowered y xs i (omega arith))
+
+-- what `wedge` leaves: the entries from a place on a place higher, over the last, and `new` there
+pub wedged : (front : List Entry) (last new : Entry) (i : ℕ) → i ≤ length front →
+    set (copy_within (front ++ last ∷ []) i (length front) (i + 1)) i new ≡ insert front i new
+wedged front last new i l =
+    let all : List Entry = front ++ last ∷ [] in
+    let none : drop ((i + 1) + (length front - i)) all ≡ [] = drop_all ((i + 1) + (length front - i)) all (omega (arith, length-append front (last ∷ []))) in
+    ap (λ (ys : List Entry). set (take (i + 1) all ++ take (length front - i) (drop i all) ++ ys) i new) none ∙
+    ap (λ (ys : List Entry). set ys i new) (append-nil (take (i + 1) all ++ take (length front - i) (drop i all))) ∙
+    ap (λ (m : ℕ). set (take m all ++ take (length front - i) (drop i all)) i new) (add-one i) ∙ raised front i (length front - i) refl l
+  where
+    raised : (front : List Entry) (i m : ℕ) → m ≡ length front - i → i ≤ length front →
+        set (take (suc i) (front ++ last ∷ []) ++ take m (drop i (front ++ last ∷ []))) i new ≡ insert front i new
+    raised [] zero m e l = rw e refl
+    raised [] (suc i) m e l = absurd (omega arith)
+    raised (x ∷ xs) zero m e l = ap {B = List Entry} (λ ys. new ∷ ys) (take_at (x ∷ xs) (last ∷ []) m (omega arith))
+    raised (x ∷ xs) (suc i) m e l = ap {B = List Entry} (λ ys. x ∷ ys) (raised xs i m (omega arith) (omega arith))

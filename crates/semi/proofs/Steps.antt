@@ -1,10 +1,9 @@
 -- The steps of an add, by the place of the entry of the code.
-use Rattle.std.proofs.Common.{◌≡◌, ℕ, zero, suc, ◌+◌, ◌-◌, ◌<◌, ◌≤◌, true, false, List, [], ◌∷◌, ◌++◌, length, get_or, take, drop, set, sym, refl, subst, cond, eqb, ltb, ap, ◌∙◌, inl, inr, mul-le-mul_right, one-mul, add-one, arith}
+use Rattle.std.proofs.Common.{◌≡◌, ℕ, zero, suc, ◌+◌, ◌-◌, ◌<◌, ◌≤◌, true, false, List, [], ◌∷◌, ◌++◌, length, get_or, take, drop, set, sym, refl, cond, eqb, ltb, ap, ◌∙◌, inl, inr, mul-le-mul_right, one-mul, add-one, arith}
 use Rattle.semi.specs.Adding.{code_start, rest_parts, small-start}
 use Rattle.semi.specs.Entries.{entry_of_absent, total-without}
 use Rattle.semi.specs.Estimates.{estimate_full, estimate_room}
 use Rattle.semi.specs.Line.{AtLeast, CodesDiffer, Lawful, Rising, Small, added, between, blank, entering, entry_of, first_group, holds, others, passes, placed, raised, replaced, rest, start, total, value, without}
-use Rattle.semi.specs.Groups.{at_least-rest, first-least, rising_rest}
 use Rattle.std.specs.List.{refill}
 use Rattle.semi.specs.declared.entry.Entry.{Entry}
 use Rattle.flow.proofs.Codes.{same_refl, same_sym}
@@ -208,7 +207,7 @@ module _ (n s w : ℕ) (xs : List Entry) (at : ℕ) (o : CodesDiffer xs) (rising
             ap (λ (b : ℕ). between (get_or xs at blank).group b (drop (at + 1) xs)) (sym group_is) ∙ sym (moves_passes n s w xs at o l rising);
       }
 
--- an add of an absent code, as `seat` and `settle` do it
+-- an add of an absent code, as `seat` does it
 module _ (n s w : ℕ) (xs : List Entry) (k : Code) (absent : holds k xs ≡ false) (from : Entry) (f : from ≡ entering n s xs k) (new : Entry) (e : new ≡ raised s w from.code from) where
   from_is : from ≡ start n s xs k
   from_is = f ∙ sym (entry_of_absent k xs (entering n s xs k) absent)
@@ -219,26 +218,19 @@ module _ (n s w : ℕ) (xs : List Entry) (k : Code) (absent : holds k xs ≡ fal
   others_is : cond (ltb (length xs) n) xs (rest xs) ≡ others n xs k
   others_is = sym (cond-false _ _ _ absent)
 
-  pub entered : (es zs : List Entry) → es ≡ from ∷ cond (ltb (length xs) n) xs (rest xs) → zs ≡ es → (ys : List Entry) (r : ℕ) → length ys ≡ length zs →
-      ys ≡ placed new (rest zs) → r ≡ between (first_group zs) new.group (rest zs) → Adds n s w xs k (refill (length es) es ys) r
-  entered es zs q z ys r long line count =
-      let behind : rest zs ≡ others n xs k = ap rest (z ∙ q) ∙ others_is in
-      let first : first_group zs ≡ (start n s xs k).group = ap first_group (z ∙ q) ∙ ap (λ (x : Entry). x.group) from_is in
-      record {
-        line = lent es ys (long ∙ ap length z) ∙ line ∙ ap (placed new) behind ∙ ap (λ (x : Entry). placed x (others n xs k)) new_is ∙
-            sym (cond-false _ (replaced (raised s w k (start n s xs k)) xs) (placed (raised s w k (start n s xs k)) (others n xs k)) (and_left _ _ absent));
-        passes = count ∙ ap (λ (g : ℕ). between g new.group (rest zs)) first ∙ ap (between (start n s xs k).group new.group) behind ∙
-            ap (λ (x : Entry). between (start n s xs k).group x.group (others n xs k)) new_is;
-      }
+  counted : cond (ltb (length xs) n) (between 0 new.group xs) (between (first_group xs) new.group (rest xs)) ≡ between from.group new.group (cond (ltb (length xs) n) xs (rest xs))
+  counted = elim (cases_Bool (ltb (length xs) n)) [
+    | inl q ↦ let g : from.group ≡ 0 = ap (λ (x : Entry). x.group) (f ∙ cond-true _ _ _ q) in
+        cond-true _ _ _ q ∙ ap (λ (a : ℕ). between a new.group xs) (sym g) ∙ ap (between from.group new.group) (sym (cond-true _ _ _ q))
+    | inr q ↦ let g : from.group ≡ first_group xs = ap (λ (x : Entry). x.group) (f ∙ cond-false _ _ _ q) in
+        cond-false _ _ _ q ∙ ap (λ (a : ℕ). between a new.group (rest xs)) (sym g) ∙ ap (between from.group new.group) (sym (cond-false _ _ _ q))
+  ]
 
--- the line stays in order with the entry at the front
-pub rising_seated : (n s : ℕ) (xs : List Entry) (k : Code) (from : Entry) → from ≡ entering n s xs k → Rising xs → (zs : List Entry) → zs ≡ from ∷ cond (ltb (length xs) n) xs (rest xs) → Rising zs
-rising_seated n s xs k from f r zs z =
-    subst Rising (sym z) (elim (cases_Bool (ltb (length xs) n)) [
-      | inl b ↦ let g : from.group ≡ 0 = ap (λ (x : Entry). x.group) (f ∙ cond-true _ _ _ b) in
-          let a : AtLeast from.group xs = subst (λ (g : ℕ). AtLeast g xs) (sym g) (at_least_zero xs) in
-          subst (λ (ys : List Entry). Rising (from ∷ ys)) (sym (cond-true (ltb (length xs) n) xs (rest xs) b)) (a, r)
-      | inr b ↦ let g : from.group ≡ first_group xs = ap (λ (x : Entry). x.group) (f ∙ cond-false _ _ _ b) in
-          let a : AtLeast from.group (rest xs) = subst (λ (g : ℕ). AtLeast g (rest xs)) (sym g) (at_least-rest (first_group xs) xs (first-least xs r)) in
-          subst (λ (ys : List Entry). Rising (from ∷ ys)) (sym (cond-false (ltb (length xs) n) xs (rest xs) b)) (a, rising_rest xs r)
-    ])
+  pub entered : (ys : List Entry) (r : ℕ) → ys ≡ placed new (cond (ltb (length xs) n) xs (rest xs)) →
+      r ≡ cond (ltb (length xs) n) (between 0 new.group xs) (between (first_group xs) new.group (rest xs)) → Adds n s w xs k ys r
+  entered ys r line count = record {
+    line = line ∙ ap (placed new) others_is ∙ ap (λ (x : Entry). placed x (others n xs k)) new_is ∙
+        sym (cond-false _ (replaced (raised s w k (start n s xs k)) xs) (placed (raised s w k (start n s xs k)) (others n xs k)) (and_left _ _ absent));
+    passes = count ∙ counted ∙ ap (between from.group new.group) others_is ∙ ap (λ (x : Entry). between x.group new.group (others n xs k)) from_is ∙
+        ap (λ (x : Entry). between (start n s xs k).group x.group (others n xs k)) new_is;
+  }

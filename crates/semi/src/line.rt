@@ -1,7 +1,8 @@
 // The line of a semi-ordered counter, and the steps of an add to it.
-ghost use Rattle.std.specs.Prelude.{◌≡◌, ◌<◌, ◌≤◌, true, false, if◌then◌else◌, ◌==◌, [], ◌∷◌, length, nat_le, nat_lt, MatchOption, slice_index_or};
+ghost use Rattle.std.specs.Prelude.{◌≡◌, ◌<◌, ◌≤◌, true, false, if◌then◌else◌, ◌==◌, List, [], ◌∷◌, ◌++◌, insert, length, nat_le, nat_lt, MatchOption, slice_index_or};
 ghost use Rattle.std.specs.List.{prefix_len};
 ghost use Rattle.semi.specs.Line.{holds, placed, between, AtLeast, Rising, added, passes, first_group, rest, total, entering, start, orderly, blank};
+ghost use Rattle.semi.specs.declared.entry.Entry.{Entry as Item};
 ghost use Rattle.flow.specs.Limits.{most_places, most_step, most_weight, most_bound};
 
 use crate::entry::Entry;
@@ -112,7 +113,7 @@ impl Line {
         }
     }
 
-    // Adds a packet: to the entry of the code, or to what the code counts from, once that stands at the front. Answers the passes.
+    // Adds a packet to what the code counts from, and puts the new entry in its place. Answers the passes.
     // Code and weight come as the counter's `add` has them.
     pub(crate) fn add(&mut self, code: Code, weight: u32) -> usize
         requires light { weight ≤ most_weight }
@@ -128,23 +129,49 @@ impl Line {
             }
             None => {
                 let start = self.entering(code);
-                seat(&mut self.entries, self.sizes.places, start);
-                settle(&mut self.entries, start.raised(self.sizes.step, weight))
+                let new = start.raised(self.sizes.step, weight);
+                seat(&mut self.entries, self.sizes.places, new)
             }
         }
     }
 }
 
-// Puts an entry at the front, in the place of the first one where so many places are taken.
-fn seat(entries: &mut ArrayVec<Entry, MOST_PLACES>, places: usize, entry: Entry)
-    requires { (0 < places) × (places ≤ most_places) }
-    ensures { entries.new.items ≡ entry ∷ (if nat_lt (length entries.old.items) places then entries.old.items else rest entries.old.items) }
+// Puts a further entry on the line, in exchange for the first one where so many places are taken. Answers the passes.
+fn seat(entries: &mut ArrayVec<Entry, MOST_PLACES>, places: usize, new: Entry) -> usize
+    requires places { (0 < places) × (places ≤ most_places) }
+    requires order { Rising entries.old.items }
+    ensures items { entries.new.items ≡ placed new (if nat_lt (length entries.old.items) places then entries.old.items else rest entries.old.items) }
+    ensures passes { result ≡ (if nat_lt (length entries.old.items) places then between 0 new.group entries.old.items else between (first_group entries.old.items) new.group (rest entries.old.items)) }
 {
     if entries.len() < places {
-        entries.insert(0, entry);
+        enter(entries, new)
     } else {
-        entries[0] = entry;
+        settle(entries, new)
     }
+}
+
+// Puts a further entry on the line, behind each one whose group is not above its own.
+// Answers how many different groups between 0 and its own it passes. (`insert` turns the line by a call: see `settle`.)
+fn enter(entries: &mut ArrayVec<Entry, MOST_PLACES>, new: Entry) -> usize
+    requires room { length entries.old.items < most_places }
+    requires order { Rising entries.old.items }
+    ensures items { entries.new.items ≡ placed new entries.old.items }
+    ensures passes { result ≡ between 0 new.group entries.old.items }
+{
+    let way = climb(entries.as_slice(), 0, new.group);
+    entries.push(new);
+    wedge(entries, way.entries, new);
+    way.passes
+}
+
+// Puts `new` at a place, and moves the entries from there on up over the last one.
+fn wedge(line: &mut [Entry], at: usize, new: Entry)
+    requires { at < length line.old }
+    ensures { (front : List Item) (last : Item) → line.old ≡ front ++ last ∷ [] → line.new ≡ insert front at new }
+{
+    let last = line.len() - 1;
+    line.copy_within(at..last, at + 1);
+    line[at] = new;
 }
 
 // Puts `new` in the place of the first entry, where it stays if its group does, and else settles.
@@ -162,7 +189,7 @@ fn regroup(line: &mut [Entry], new: Entry) -> usize
 }
 
 // Puts `new` in the place of the first entry, and moves it behind each later one whose group is not above its own.
-// Answers how many different groups between the two it passes.
+// Answers how many different groups between the two it passes. (`rotate_left` is a call of its own, which costs more than a short way.)
 fn settle(line: &mut [Entry], new: Entry) -> usize
     requires some { 0 < length line.old }
     requires order { Rising line.old }
@@ -170,8 +197,8 @@ fn settle(line: &mut [Entry], new: Entry) -> usize
     ensures passes { result ≡ between (first_group line.old) new.group (rest line.old) }
 {
     let way = climb(&line[1..], line[0].group, new.group);
-    line[0] = new;
-    line[..=way.entries].rotate_left(1);
+    line.copy_within(1..way.entries + 1, 0);
+    line[way.entries] = new;
     way.passes
 }
 

@@ -1,4 +1,4 @@
-use Rattle.std.proofs.Common.{◌≡◌, ℕ, Bool, leb, List, get_or, sym, ap, ◌∙◌, subst}
+use Rattle.std.proofs.Common.{◌≡◌, ℕ, Bool, leb, List, length, get_or, sym, ap, ◌∙◌, subst, arith}
 use Rattle.semi.proofs.Places.{Parts, later_is, parts_front, rising_later, settled}
 use Rattle.semi.proofs.Steps.{first_group-drop}
 use Rattle.semi.specs.Groups.{rising_rest}
@@ -19,7 +19,7 @@ returns-clause-line c =
     let p : Entry → Bool = λ e. leb e.group g in
     let at : c.climb-way.result.entries ≡ prefix_len p (rest xs) = c.climb-way.ensures.entries ∙ ap (prefix_len p) (later_is xs) in
     let parts : Parts g c.climb-way.result.entries (rest xs) = subst (λ (i : ℕ). Parts g i (rest xs)) (sym at) (parts_front g (rest xs) (rising_rest xs c.requires.order)) in
-    settled xs c.args.new c.climb-way.result.entries c.rotate_left.new.self c.requires.some parts c.rotate_left.ensures.after
+    settled xs c.args.new c.climb-way.result.entries c.copy_within.new.self c.requires.some (omega (arith, c.climb-way.ensures.within, ap length (later_is xs))) parts c.copy_within.ensures.after
 
 pub returns-clause-passes : goal.returns-clause-passes
 returns-clause-passes c =

@@ -1,13 +1,13 @@
-use Rattle.std.proofs.Common.{◌-◌, ◌++◌, length, get_or, take, drop, refl, ◌∙◌}
+use Rattle.std.proofs.Common.{◌-◌, ◌++◌, length, get_or, take, drop, refl}
 use Rattle.std.specs.List.{refill}
 use Rattle.flow.specs.Limits.{most_bound}
 use Rattle.semi.proofs.Kept.{line_kept}
 use Rattle.semi.proofs.Orders.{orderly_from}
-use Rattle.semi.proofs.Steps.{Adds, entered, group_bound, grown, rising_drop, rising_seated, small_at}
+use Rattle.semi.proofs.Steps.{Adds, entered, group_bound, grown, rising_drop, small_at}
 use Rattle.std.proofs.lemmas.List.{take_rest}
 use Rattle.semi.specs.Line.{blank}
 use Rattle.semi.proofs.line.Line.add.Goals as goal
-use Rattle.semi.proofs.line.Line.add.Goals.{After-regroup, After-settle}
+use Rattle.semi.proofs.line.Line.add.Goals.{After-regroup, After-seat}
 
 -- a held code
 held : (c : After-regroup) →
@@ -53,29 +53,27 @@ pub returns-in-Some-clause-passes : goal.returns-in-Some-clause-passes
 returns-in-Some-clause-passes c = rw c.in-Some.ensures.1 at (held (goal.at.returns-in-Some-clause-passes c).After-regroup).passes
 
 -- an absent code
-absent : (c : After-settle) →
+absent : (c : After-seat) →
     let m = c.args.self.now in
-    let seated = c.seat.new.entries.items in
-    Adds m.sizes.places m.sizes.step c.args.weight m.entries.items c.args.code (refill (length seated) seated c.settle.new.line) c.settle.result
+    Adds m.sizes.places m.sizes.step c.args.weight m.entries.items c.args.code c.seat.new.entries.items c.seat.result
 absent c =
     let m = c.args.self.now in
-    entered m.sizes.places m.sizes.step c.args.weight m.entries.items c.args.code c.in-None.ensures _ c.entering-start.ensures _ c.raised.ensures _ _
-    c.seat.ensures c.deref_mut-in-None.ensures.value _ _ c.settle.auto.line c.settle.ensures.line c.settle.ensures.passes
+    entered m.sizes.places m.sizes.step c.args.weight m.entries.items c.args.code c.in-None.ensures _ c.entering-start.ensures _ c.raised-new-in-None.ensures _ _
+    c.seat.ensures.items c.seat.ensures.passes
 
-pub settle-requires-clause-order : goal.settle-requires-clause-order
-settle-requires-clause-order c =
+pub seat-requires-clause-order : goal.seat-requires-clause-order
+seat-requires-clause-order c =
     let m = c.args.self.now in
-    let xs = m.entries.items in
-    rising_seated m.sizes.places m.sizes.step xs c.args.code _ c.entering-start.ensures (orderly_from m.sizes.step xs m.order).0 _ (c.deref_mut-in-None.ensures.value ∙ c.seat.ensures)
+    (orderly_from m.sizes.step m.entries.items m.order).0
 
 pub invariant_of-self-in-None : goal.invariant_of-self-in-None
 invariant_of-self-in-None c =
     let m = c.args.self.now in
-    let k = line_kept m.sizes.places m.sizes.step c.args.weight m.entries.items c.args.code _ m.sizes.places_in.0 m.sizes.step_in m.few m.order (absent (goal.at.invariant_of-self-in-None c).After-settle).line in
+    let k = line_kept m.sizes.places m.sizes.step c.args.weight m.entries.items c.args.code _ m.sizes.places_in.0 m.sizes.step_in m.few m.order (absent (goal.at.invariant_of-self-in-None c).After-seat).line in
     record { fine = m.fine; few = k.0; order = k.1 }
 
 pub returns-in-None-clause-entries : goal.returns-in-None-clause-entries
-returns-in-None-clause-entries c = (absent (goal.at.returns-in-None-clause-entries c).After-settle).line
+returns-in-None-clause-entries c = (absent (goal.at.returns-in-None-clause-entries c).After-seat).line
 
 pub returns-in-None-clause-passes : goal.returns-in-None-clause-passes
-returns-in-None-clause-passes c = (absent (goal.at.returns-in-None-clause-passes c).After-settle).passes
+returns-in-None-clause-passes c = (absent (goal.at.returns-in-None-clause-passes c).After-seat).passes
