@@ -1,5 +1,7 @@
 -- The flows that have a mark: each once.
-use Rattle.std.proofs.Common.{◌≡◌, ℕ, suc, ◌+◌, ◌*◌, ◌<◌, ◌≤◌, Bool, true, false, cond, ltb, List, [], ◌∷◌, ◌++◌, length, get_or, take, sym, refl, ap, ◌∙◌, ⊎_elim, one-mul, zero-mul, arith}
+use Rattle.std.proofs.Common.{◌≡◌, ℕ, suc, ◌+◌, ◌*◌, ◌<◌, ◌≤◌, Bool, true, false, cond, not, ltb, List, [], ◌∷◌, ◌++◌, length, get_or, take, Option, sym, refl, ap, ◌∙◌, ⊎_elim, one-mul, zero-mul, arith}
+use Rattle.std.specs.Bool.{then_some}
+use Rattle.std.specs.Option.{option_to_list}
 use Rattle.std.specs.List.{AllByRecursion, list_any}
 use Rattle.std.proofs.lemmas.List.{take_more, get_or_default}
 use Rattle.std.proofs.lemmas.Bool.{cases_Bool}
@@ -144,6 +146,11 @@ flows_sum (m ∷ ms) =
         (λ b. let zero : n ≡ 0 = grind (arith, nat_tests) in let none : t ≡ 0 = grind (arith, nat_tests) in ap (λ x. x * n) none ∙ zero-mul n ∙ sym zero)
         (cases_Bool (ltb 0 n))
 
+-- whether a code has a mark
+has_mark : (k : Code) (ms : List Mark) → list_any (λ m. same m.code k) ms ≡ ltb 0 (marks_of k ms)
+has_mark k [] = refl
+has_mark k (m ∷ ms) = let ih = has_mark k ms in let more = marks_more k m ms in grind (arith, nat_tests)
+
 -- whether a code is among others
 has_code : (k : Code) (cs : List Code) → list_any (λ c. same c k) cs ≡ ltb 0 (times k cs)
 has_code k [] = refl
@@ -165,3 +172,13 @@ flows_seen ms p d cs seen so_far within seen-is =
     let x = get_or ms p d in
     let is : seen ≡ ltb 0 (marks_of x.code (take p ms)) = seen-is ∙ ap (list_any (λ c. same c x.code)) so_far ∙ has_flow x.code (take p ms) in
     ap (λ (ks : List Code). ks ++ cond seen [] (x.code ∷ [])) so_far ∙ sym (flows_more ms p x seen within (get_or_default ms p d x within) is)
+
+-- the mark x at a place names its flow, unless one before it was seen to be of that flow
+pub flow_next : (ms : List Mark) (p : ℕ) (x : Mark) (seen : Bool) (o : Option Code) → p < length ms → x ≡ get_or ms p x → seen ≡ list_any (λ m. same m.code x.code) (take p ms) → o ≡ then_some (not seen) x.code →
+    flows (take (p + 1) ms) ≡ flows (take p ms) ++ option_to_list o
+flow_next ms p x seen o within here seen-is o-is =
+    flows_more ms p x seen within here (seen-is ∙ has_mark x.code (take p ms)) ∙ ap (λ (cs : List Code). flows (take p ms) ++ cs) (told seen ∙ ap option_to_list (sym o-is))
+  where
+    told : (b : Bool) → cond b [] (x.code ∷ []) ≡ option_to_list (then_some (not b) x.code)
+    told true = refl
+    told false = refl

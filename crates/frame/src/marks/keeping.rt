@@ -1,5 +1,5 @@
 // What is done with marks.
-ghost use Rattle.std.specs.Prelude.{◌≡◌, ◌≤◌, [], ◌∷◌, ◌++◌, length, take, drop, if◌then◌else◌, nat_lt};
+ghost use Rattle.std.specs.Prelude.{◌≡◌, ◌+◌, ◌≤◌, [], ◌∷◌, ◌++◌, length, take, drop, if◌then◌else◌, nat_lt};
 ghost use Rattle.std.specs.Option.{option_to_list};
 ghost use Rattle.flow.specs.Limits.{most_marks};
 ghost use Rattle.frame.specs.Marking.{marks_of, flows};
@@ -58,6 +58,15 @@ impl Marks {
         flows
     }
 
+    // The flow of the mark at this place, if no mark before it is of that flow.
+    pub fn flow_at(&self, place: usize) -> Option<Code>
+        ensures { flows (take (place + 1) (listed self.now)) ≡ flows (take place (listed self.now)) ++ option_to_list result }
+    {
+        let code = self.marks.get(place)?.code;
+        let is_first = !self.marks[..place].iter().any(|mark| mark.code == code);
+        is_first.then_some(code)
+    }
+
     // Puts a mark last; where there is no room, all stays.
     pub fn put(&mut self, mark: Mark)
         ensures older { older self.new ≡ older self.old }
@@ -83,5 +92,14 @@ impl Marks {
         ensures newer { newer self.new ≡ [] }
     {
         self.previous = self.marks.len();
+    }
+
+    // Drops every mark.
+    pub fn clear(&mut self)
+        ensures older { older self.new ≡ [] }
+        ensures newer { newer self.new ≡ [] }
+    {
+        self.marks.clear();
+        self.previous = 0;
     }
 }
