@@ -1,21 +1,26 @@
 -- Lists, flow by flow.
-use Rattle.std.proofs.Common.{◌≡◌, ℕ, ◌+◌, ◌*◌, ◌<◌, ◌≤◌, Bool, true, false, cond, leb, List, [], ◌∷◌, ◌++◌, length, get_or, take, Some, None, Option, sym, refl, ap, ◌∙◌, subst, append-nil, arith, take_all, ltb, min}
+use Rattle.std.proofs.Common.{◌≡◌, ℕ, zero, suc, ◌+◌, ◌*◌, ◌≤◌, Bool, true, false, cond, leb, List, [], ◌∷◌, ◌++◌, length, take, drop, set, add-one, length-append, Some, None, Option, sym, refl, ap, ◌∙◌, subst, append-nil, arith, take_all, ltb, min}
 use lib.Seq.{take-append-le}
-use Rattle.std.proofs.lemmas.List.{take_more, take-append-drop, length-take}
-use Rattle.std.proofs.lemmas.Bool.{cond-true, cond-false, le-leb, lt-leb, ltb-false}
+use Rattle.std.specs.Bool.{then_some}
+use Rattle.std.specs.Option.{option_to_list}
+use Rattle.std.proofs.lemmas.List.{take-append-drop, length-take}
+use Rattle.std.proofs.lemmas.Bool.{ltb-false}
 use Rattle.std.proofs.lemmas.Bool.Decides.{nat_tests}
 use Rattle.flow.specs.Answers.{Answer, answered, refused}
 use Rattle.flow.specs.Limits.{least_scratch, most_marks}
 use Rattle.flow.specs.Meanings.{Meaning}
 use Rattle.flow.specs.declared.code.Code.{Code}
 use Rattle.frame.specs.declared.plan.Plan.{Plan}
+use Rattle.frame.specs.declared.marks.Mark.{Mark}
+use Rattle.frame.specs.Marked.{listed}
+use Rattle.frame.specs.Marking.{flows}
 use Rattle.frame.specs.Plans.{unit_of, level_judged}
 use Rattle.meter.specs.declared.record.Record.{Record}
 use Rattle.meter.specs.Ledgers.{Ledger}
 use Rattle.meter.specs.Guarantees.{ListsUnder}
-use Rattle.meter.specs.States.{State, listing, list_in, list_for, list_answer, count_of}
+use Rattle.meter.specs.States.{State, estimate_in, listing, list_in, list_for, list_answer, count_of}
 use Rattle.meter.specs.declared.meter.Window.{Window}
-use Rattle.meter.specs.Meters.{state_in}
+use Rattle.meter.specs.Meters.{windowed, state_in}
 use Rattle.meter.specs.Holding.{Kept, Holds}
 use Rattle.meter.proofs.Answering.{lists, list_few}
 
@@ -28,18 +33,55 @@ listing-append est level (x ∷ xs) ys = by (leb level (est x)) (listing-append 
     by true e = ap (λ (rs : List Record). record { code = x; estimate = est x } ∷ rs) e
     by false e = e
 
--- the records of the flows so far, and that of one flow more
-module _ (est : Code → ℕ) (level : ℕ) (ks : List Code) (i : ℕ) (d : Code) (within : i < length ks) (rs : List Record) (so_far : rs ≡ listing est level (take i ks)) (e : ℕ) (is : e ≡ est (get_or ks i d)) where
-  more : listing est level (take (i + 1) ks) ≡ rs ++ cond (leb level e) (record { code = get_or ks i d; estimate = e } ∷ []) []
-  more =
-      ap (listing est level) (take_more ks i d within) ∙ listing-append est level (take i ks) (get_or ks i d ∷ []) ∙ ap (λ (xs : List Record). xs ++ listing est level (get_or ks i d ∷ [])) (sym so_far) ∙
-      ap (λ (x : ℕ). rs ++ cond (leb level x) (record { code = get_or ks i d; estimate = x } ∷ []) []) (sym is)
+-- the records of some flows, and that of a flow that may follow
+module _ (est : Code → ℕ) (level : ℕ) (ks js : List Code) (o : Option Code) (next : js ≡ ks ++ option_to_list o) where
+  more : listing est level js ≡ listing est level ks ++ listing est level (option_to_list o)
+  more = ap (listing est level) next ∙ listing-append est level ks (option_to_list o)
 
-  pub list_low : e < level → rs ≡ listing est level (take (i + 1) ks)
-  list_low low = sym (more ∙ ap (λ (xs : List Record). rs ++ xs) (cond-false _ _ _ (lt-leb level e low)) ∙ append-nil rs)
+  pub list_old : (r : Option Record) → o ≡ None → r ≡ None → listing est level js ≡ listing est level ks ++ option_to_list r
+  list_old r none r-is = more ∙ ap (λ (x : Option Code). listing est level ks ++ listing est level (option_to_list x)) none ∙ ap (λ (x : Option Record). listing est level ks ++ option_to_list x) (sym r-is)
 
-  pub list_high : level ≤ e → rs ++ record { code = get_or ks i d; estimate = e } ∷ [] ≡ listing est level (take (i + 1) ks)
-  list_high high = sym (more ∙ ap (λ (xs : List Record). rs ++ xs) (cond-true _ _ _ (le-leb level e high)))
+  pub list_next : (k : Code) (e : ℕ) (heavy : Bool) (r : Option Record) → o ≡ Some k → e ≡ est k → heavy ≡ leb level e → r ≡ then_some heavy (record { code = k; estimate = e }) → listing est level js ≡ listing est level ks ++ option_to_list r
+  list_next k e heavy r is e-is heavy-is r-is =
+      more ∙ ap (λ (x : Option Code). listing est level ks ++ listing est level (option_to_list x)) is ∙
+      ap (λ (x : ℕ). listing est level ks ++ cond {A = List Record} (leb level x) (record { code = k; estimate = x } ∷ []) []) (sym e-is) ∙
+      ap (λ (b : Bool). listing est level ks ++ cond {A = List Record} b (record { code = k; estimate = e } ∷ []) []) (sym heavy-is) ∙
+      ap (λ (rs : List Record). listing est level ks ++ rs) (told heavy ∙ ap option_to_list (sym r-is))
+    where
+      told : (b : Bool) → cond {A = List Record} b (record { code = k; estimate = e } ∷ []) [] ≡ option_to_list (then_some b (record { code = k; estimate = e }))
+      told true = refl
+      told false = refl
+
+-- one record more at the front of a table, if that reaches so far
+set_front : (front entry : List Record) (r : Record) → set (take (length entry) front ++ drop (length front) entry) (length front) r ≡ take (length entry) (front ++ r ∷ []) ++ drop (suc (length front)) entry
+set_front [] [] r = refl
+set_front [] (e ∷ es) r = ap (λ (xs : List Record). r ∷ (xs ++ es)) (sym (take_nil (length es)))
+  where
+    take_nil : (n : ℕ) → take {A = Record} n [] ≡ []
+    take_nil zero = refl
+    take_nil (suc n) = refl
+set_front (f ∷ fs) [] r = refl
+set_front (f ∷ fs) (e ∷ es) r = ap (λ (xs : List Record). f ∷ xs) (set_front fs es r)
+
+-- one turn of the writing of a list: the records so far stand at the front of the table
+module _ (front next entry table : List Record) (n : ℕ) (n-is : n ≡ length front) (table_is : table ≡ take (length entry) front ++ drop n entry) where
+  pub write_some : (r : Record) (k : ℕ) (new : List Record) → next ≡ front ++ r ∷ [] → k ≡ n + 1 → new ≡ set table n r → (k ≡ length next) × (new ≡ take (length entry) next ++ drop k entry)
+  write_some r k new more k-is new-is = (
+    omega (arith, ap length more, length-append front (r ∷ [])),
+    new-is ∙ ap (λ (t : List Record). set t n r) table_is ∙
+        ap (λ i. set (take (length entry) front ++ drop i entry) i r) n-is ∙ set_front front entry r ∙
+        (λ i. take (length entry) (sym more i) ++ drop (sym (k-is ∙ add-one n ∙ ap suc n-is) i) entry),
+  )
+
+  pub write_none : (k : ℕ) (new : List Record) → next ≡ front ++ [] → k ≡ n → new ≡ table → (k ≡ length next) × (new ≡ take (length entry) next ++ drop k entry)
+  write_none k new same k-is new-is =
+      let stays = same ∙ append-nil front in
+      (k-is ∙ n-is ∙ ap length (sym stays), new-is ∙ table_is ∙ (λ i. take (length entry) (sym stays i) ++ drop (sym k-is i) entry))
+
+-- the records of all flows
+pub list_all : {C : Type 0} (m : Meaning C) (c : C) (w : Window) (level n : ℕ) → length (listed w.marks) ≤ n → listing (estimate_in m (windowed m c w) w.layout.plan) level (flows (take n (listed w.marks))) ≡ list_in m (windowed m c w) w.layout.plan level
+list_all m c w level n past =
+    ap (λ (ms : List Mark). listing (estimate_in m (windowed m c w) w.layout.plan) level (flows ms)) (take_all n (listed w.marks) past ∙ sym (take-append-drop w.marks.previous (listed w.marks)))
 
 -- a level that a plan takes is three units or more
 pub level_high : (p : Plan) (level : ℕ) → ◌≡◌ {A = Answer (Unit {0})} (answered tt) (level_judged p level) → 3 * unit_of p ≤ level

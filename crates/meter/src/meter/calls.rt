@@ -86,7 +86,7 @@ impl<C: FrameCounter> Meter<C> {
             return Err(Refusal::NotTakenNow);
         };
         self.counter.flush();
-        *window = Window::new(window.layout);
+        window.clear();
         Ok(())
     }
 

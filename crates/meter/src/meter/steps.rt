@@ -34,6 +34,17 @@ impl Window {
         }
     }
 
+    // Empties the window.
+    pub(crate) fn clear(&mut self)
+        ensures layout { self.new.layout ≡ self.old.layout }
+        ensures offset { self.new.offset ≡ 0 }
+        ensures older { older self.new.marks ≡ [] }
+        ensures newer { newer self.new.marks ≡ [] }
+    {
+        self.offset = 0;
+        self.marks.clear();
+    }
+
     // Takes a packet. Answers the counter's passes.
     pub(crate) fn packet<C: FrameCounter>(
         &mut self,

@@ -11,5 +11,5 @@ pub returns-clause-holds : goal.returns-clause-holds
 returns-clause-holds g c =
     let m = g.C.FrameCounter.meaning in
     let s = state_of m c.args.self.now in
-    let state : windowed m c.flush.new.self c.new.result ≡ restart_leaves m s = search rules in
+    let state : windowed m c.flush.new.self c.clear.new.self ≡ restart_leaves m s = search rules in
     λ l h. subst (λ (y : State m.Model). Holds m y (restarted l)) (sym state) (restart_holds m s g.met.C.FrameCounter.flushes l h)
