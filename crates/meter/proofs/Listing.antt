@@ -41,12 +41,11 @@ module _ (est : Code → ℕ) (level : ℕ) (ks js : List Code) (o : Option Code
   pub list_old : (r : Option Record) → o ≡ None → r ≡ None → listing est level js ≡ listing est level ks ++ option_to_list r
   list_old r none r-is = more ∙ ap (λ (x : Option Code). listing est level ks ++ listing est level (option_to_list x)) none ∙ ap (λ (x : Option Record). listing est level ks ++ option_to_list x) (sym r-is)
 
-  pub list_next : (k : Code) (e : ℕ) (heavy : Bool) (r : Option Record) → o ≡ Some k → e ≡ est k → heavy ≡ leb level e → r ≡ then_some heavy (record { code = k; estimate = e }) → listing est level js ≡ listing est level ks ++ option_to_list r
-  list_next k e heavy r is e-is heavy-is r-is =
+  pub list_next : (k : Code) (e : ℕ) (r : Option Record) → o ≡ Some k → e ≡ est k → r ≡ then_some (leb level e) (record { code = k; estimate = e }) → listing est level js ≡ listing est level ks ++ option_to_list r
+  list_next k e r is e-is r-is =
       more ∙ ap (λ (x : Option Code). listing est level ks ++ listing est level (option_to_list x)) is ∙
       ap (λ (x : ℕ). listing est level ks ++ cond {A = List Record} (leb level x) (record { code = k; estimate = x } ∷ []) []) (sym e-is) ∙
-      ap (λ (b : Bool). listing est level ks ++ cond {A = List Record} b (record { code = k; estimate = e } ∷ []) []) (sym heavy-is) ∙
-      ap (λ (rs : List Record). listing est level ks ++ rs) (told heavy ∙ ap option_to_list (sym r-is))
+      ap (λ (rs : List Record). listing est level ks ++ rs) (told (leb level e) ∙ ap option_to_list (sym r-is))
     where
       told : (b : Bool) → cond {A = List Record} b (record { code = k; estimate = e } ∷ []) [] ≡ option_to_list (then_some b (record { code = k; estimate = e }))
       told true = refl

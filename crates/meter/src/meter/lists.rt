@@ -68,6 +68,8 @@ impl Window {
     }
 
     // Writes the list at a level to the front of the table, as far as that reaches. Answers how many records the list has.
+    // Inlined at both of its calls, since a list over no marks is to cost no call.
+    #[inline(always)]
     fn list_into<C: FrameCounter>(&self, counter: &C, level: u64, table: &mut [Record]) -> usize
         ensures count { result ≡ length (list_in C.meaning (windowed C.meaning counter.now self.now) self.now.layout.plan level) }
         ensures table { table.new ≡ take (length table.old) (list_in C.meaning (windowed C.meaning counter.now self.now) self.now.layout.plan level) ++ drop result table.old }

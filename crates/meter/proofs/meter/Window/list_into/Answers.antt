@@ -1,7 +1,8 @@
 -- Each record goes behind those so far.
-use Rattle.std.proofs.Common.{◌+◌, ◌++◌, length, take, drop, ap, ◌∙◌, arith}
+use Rattle.std.proofs.Common.{◌≡◌, ◌+◌, List, ◌++◌, length, take, drop, ◌∙◌, subst, arith}
 use Rattle.frame.specs.Marked.{listed}
 use Rattle.frame.specs.Marking.{flows}
+use Rattle.meter.specs.declared.record.Record.{Record}
 use Rattle.meter.specs.States.{estimate_in, listing}
 use Rattle.meter.specs.Meters.{windowed}
 use Rattle.meter.proofs.Listing.{list_all, write_some, write_none}
@@ -30,8 +31,8 @@ pub returns : goal.returns
 returns g c =
     let m = g.C.FrameCounter.meaning in
     let x = c.args.self.now in
+    let entry = c.args.table.now in
+    let inv = c.loop-place.invariant in
     let all = list_all m c.args.counter.now x c.args.level c.loop-place.place (omega (arith, c.len-place-end.ensures.count, c.loop-place-test.false)) in
-    record {
-      count = c.loop-place.invariant.counted ∙ ap length all;
-      table = c.loop-place.invariant.written ∙ (λ i. take (length c.args.table.now) (all i) ++ drop c.loop-place.count c.args.table.now);
-    }
+    let got = subst (λ (rs : List Record). (c.loop-place.count ≡ length rs) × (c.loop-place.table ≡ take (length entry) rs ++ drop c.loop-place.count entry)) all (inv.counted, inv.written) in
+    record { count = got.0; table = got.1 }
