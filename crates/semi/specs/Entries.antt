@@ -12,6 +12,10 @@ pub entry_of-placed : (e : Entry) (xs : List Entry) (d : Entry) → holds e.code
 entry_of-placed e [] d h = grind (arith, same_refl)
 entry_of-placed e (x ∷ xs) d h = grind (arith, same_refl, entry_of-placed e xs d)
 
+pub holds-placed : (e : Entry) (xs : List Entry) → holds e.code (placed e xs) ≡ true
+holds-placed e [] = grind (arith, same_refl)
+holds-placed e (x ∷ xs) = grind (arith, same_refl, holds-placed e xs)
+
 pub entry_of-placed_other : (j : Code) (e : Entry) (xs : List Entry) (d : Entry) → same j e.code ≡ false → entry_of j (placed e xs) d ≡ entry_of j xs d
 entry_of-placed_other j e [] d h = grind arith
 entry_of-placed_other j e (x ∷ xs) d h = grind (arith, entry_of-placed_other j e xs d)

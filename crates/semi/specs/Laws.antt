@@ -5,7 +5,7 @@ use Rattle.semi.specs.Adding.{added_lawful}
 use Rattle.semi.specs.Estimates.{other_rise, own_rise}
 use Rattle.semi.specs.Passes.{passes_few}
 use Rattle.semi.specs.Sums.{large_sum}
-use Rattle.semi.specs.Semi.{semi_meaning}
+use Rattle.semi.specs.Semi.{SemiSound, semi_meaning, semi_opened}
 use Rattle.flow.proofs.Codes.{same_apart}
 use Rattle.flow.proofs.Inside.{adds_inside}
 use Rattle.flow.specs.Meanings.{Adds, Heavy}
@@ -35,3 +35,12 @@ semi_adds x k w sound told =
 pub semi_heavy : Heavy semi_meaning
 semi_heavy x sound m codes q d e =
     large_sum x.places x.step x.packets x.volume m x.line codes sound.some sound.stepping sound.lawful q d e
+
+-- a new counter is sound
+pub new_sound : SemiSound (semi_opened 1 1)
+new_sound = record {
+  some = omega arith;
+  stepping = omega arith;
+  few = omega arith;
+  lawful = record { few = omega arith; rising = tt; distinct = tt; small = tt; sum = omega arith };
+}

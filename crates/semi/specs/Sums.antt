@@ -12,7 +12,7 @@ use Rattle.std.proofs.lemmas.Bool.{cases_Bool, cases_lt}
 use Rattle.std.specs.List.{AllByRecursion}
 
 -- a line with small remainders holds the codes of its entries, each worth its entry's value
-abbrev holding : (s : ℕ) → Holding ((line : List Entry) × Small s line)
+abbrev pub holding : (s : ℕ) → Holding ((line : List Entry) × Small s line)
 holding s = record {
   holds = λ k x. holds k x.0;
   worth = λ k x. value s (entry_of k x.0 blank);

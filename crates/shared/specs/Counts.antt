@@ -1,5 +1,5 @@
 -- What the steps of an add do to the places: their number, their codes and their counts.
-use Rattle.std.specs.Prelude.{◌≡◌, ℕ, ◌+◌, ◌-◌, ◌*◌, ◌<◌, ◌≤◌, min, true, false, List, [], ◌∷◌, length, Some, None, refl}
+use Rattle.std.specs.Prelude.{◌≡◌, ℕ, ◌+◌, ◌-◌, ◌*◌, ◌<◌, ◌≤◌, min, true, false, List, [], ◌∷◌, length, Some, None, nat_lt, refl}
 use Rattle.std.proofs.Common.{inl, inr, arith, suc-mul}
 use Rattle.std.proofs.lemmas.Bool.{cases_lt}
 use Rattle.std.proofs.lemmas.Bool.Decides.{nat_tests}
@@ -30,6 +30,12 @@ pub counted-entered : (k : Code) (w : ℕ) (ps : List Place) → any_empty ps �
 counted-entered k w [] h = grind arith
 counted-entered k w (None ∷ ps) h = omega arith
 counted-entered k w (Some x ∷ ps) h = grind (arith, counted-entered k w ps)
+
+-- a place has the code exactly where its count is above 0
+pub held_counts : (k : Code) (ps : List Place) → tidy ps ≡ true → nat_lt 0 (count_of k ps) ≡ holds k ps
+held_counts k [] t = refl
+held_counts k (None ∷ ps) t = held_counts k ps t
+held_counts k (Some x ∷ ps) t = grind (arith, held_counts k ps)
 
 -- each count is at least m
 abbrev pub AtLeast : ℕ → List Place → Type 0

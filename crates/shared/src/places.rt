@@ -20,6 +20,18 @@ pub(crate) fn empty(places: usize) -> ArrayVec<Place, MOST_PLACES>
     cells
 }
 
+// Makes so many empty places of these, in place: to make them anew writes all their cells.
+pub(crate) fn reset(cells: &mut ArrayVec<Place, MOST_PLACES>, places: usize)
+    requires { places ≤ most_places }
+    ensures { cells.new.items ≡ replicate places None }
+{
+    cells.truncate(places);
+    cells.as_mut_slice().fill(None);
+    for _ in cells.len()..places {
+        cells.push(None);
+    }
+}
+
 // The code with its count, where some place has it.
 pub(crate) fn find(places: &[Place], code: Code) -> Option<Held>
     ensures { result ≡ find (λ x. same code x.code) (held_in places.now) }
@@ -77,12 +89,10 @@ pub(crate) fn any_empty(places: &[Place]) -> bool
 pub(crate) fn least_of(places: &[Place], weight: u64) -> u64
     ensures { result ≡ least weight places.now }
 {
-    places
-        .iter()
-        .copied()
-        .flatten()
-        .map(|held| held.count)
-        .fold(weight, u64::min)
+    places.iter().fold(weight, |least, place| match place {
+        Some(held) => least.min(held.count),
+        None => least,
+    })
 }
 
 // The place with its count lowered, empty where the count is used up.

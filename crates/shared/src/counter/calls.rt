@@ -39,6 +39,15 @@ impl SharedDeduction {
         }
     }
 
+    // Empties the counter, with these sizes.
+    fn reset(&mut self, sizes: Sizes)
+        ensures { shared_meaning.model self.new ≡ shared_opened sizes.places }
+    {
+        places::reset(&mut self.places, sizes.places);
+        self.tally = Tally::new();
+        self.deduction = 0;
+    }
+
     // The deduction.
     pub fn deduction(&self) -> u64
         ensures { result ≡ (shared_meaning.model self.now).deduction }
@@ -96,16 +105,13 @@ impl FrameCounter for SharedDeduction {
     ghost steps = { Prim.search rules };
 
     fn open(&mut self, places: usize, step: u32) -> Result<(), Refusal> {
-        let sizes = Sizes::of(places, step, STEP)?;
-        *self = SharedDeduction::opened(sizes);
+        self.reset(Sizes::of(places, step, STEP)?);
         Ok(())
     }
 
-    // In place: to make the counter anew writes all its cells.
     fn flush(&mut self) {
-        self.places.as_mut_slice().fill(None);
-        self.tally = Tally::new();
-        self.deduction = 0;
+        let places = self.places.len();
+        self.reset(Sizes { places, step: STEP });
     }
 
     fn add(&mut self, code: Code, weight: u32) -> Result<usize, Refusal>
