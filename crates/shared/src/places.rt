@@ -27,9 +27,10 @@ pub(crate) fn reset(cells: &mut ArrayVec<Place, MOST_PLACES>, places: usize)
 {
     cells.truncate(places);
     cells.as_mut_slice().fill(None);
-    for _ in cells.len()..places {
-        cells.push(None);
-    }
+    let kept = cells.len();
+    // From a constant, at once: a push of each stores the length each time.
+    let extended = cells.try_extend_from_slice(&[None; MOST_PLACES][kept..places]);
+    prove!(extended.is_ok());
 }
 
 // The code with its count, where some place has it.

@@ -1,7 +1,7 @@
--- A fill empties the places that stay, and the loop adds those that are missing.
-use Rattle.std.proofs.Common.{◌≡◌, ℕ, List, [], ◌∷◌, ◌++◌, None, length, replicate, sym, ap, ◌∙◌, rules, arith}
+-- A fill empties the places that stay, and those that are missing come empty.
+use Rattle.std.proofs.Common.{◌≡◌, ℕ, ◌+◌, ◌-◌, ◌≤◌, List, ◌++◌, None, length, take, drop, replicate, sym, ap, ◌∙◌, rules, arith}
 use Rattle.std.specs.List.{refill}
-use Rattle.std.proofs.lemmas.List.{length-replicate, length-take, replicate_more}
+use Rattle.std.proofs.lemmas.List.{drop-replicate, length-replicate, length-take, replicate-append-replicate, take-replicate}
 use Rattle.shared.specs.Places.{Place}
 use Rattle.shared.proofs.Steps.{written}
 use Rattle.shared.proofs.places.reset.Goals as goal
@@ -12,22 +12,20 @@ cleared now before after was e =
     let all = e ∙ ap (λ (ps : List Place). replicate (length ps) None) was in
     written before after (ap length all ∙ length-replicate (length before) None) ∙ all
 
-pub loop-init : goal.loop-init
-loop-init c =
-    let kept = c.truncate.new.self.items in
-    let empty = cleared _ kept _ c.as_mut_slice.ensures.value (c.fill.ensures.after (λ _ e. search rules)) in
-    let long : c.len-counter.result ≡ length kept = c.len-counter.ensures.value ∙ ap length empty ∙ length-replicate (length kept) None in
-    (empty ∙ sym (ap (λ (n : ℕ). replicate n None) long), omega (arith, long, ap length c.truncate.ensures.items, length-take c.args.places c.args.cells.now.items))
-
-pub loop-preserved : goal.loop-preserved
-loop-preserved c =
-    let n = c.loop.counter in
-    (c.push.ensures.items ∙ ap (λ (ps : List Place). ps ++ None ∷ []) c.loop.invariant.0 ∙ replicate_more n None, omega arith)
-
-pub push-requires : goal.push-requires
-push-requires c = (omega arith, omega (arith, ap length c.loop.invariant.0, length-replicate {A = Place} c.loop.counter None, c.requires))
+-- empty places, and more of 256 empty ones up to n
+filled_up : (n m : ℕ) → m ≤ n → n ≤ 256 → replicate {A = Place} m None ++ take (n - m) (drop m (replicate 256 None)) ≡ replicate n None
+filled_up n m l few =
+    let more = ap (take (n - m)) (drop-replicate {X = Place} m 256 None) ∙ take-replicate {X = Place} (n - m) (256 - m) None (omega arith) in
+    let all : m + (n - m) ≡ n = omega arith in
+    ap (λ (ps : List Place). replicate m None ++ ps) more ∙ replicate-append-replicate m (n - m) None ∙ ap (λ (k : ℕ). replicate k None) all
 
 pub returns : goal.returns
 returns c =
-    let all : c.loop.counter ≡ c.args.places = omega (arith, c.loop.invariant.1) in
-    c.loop.invariant.0 ∙ ap (λ (n : ℕ). replicate n None) all
+    let n = c.args.places in
+    let m = c.len-kept.result in
+    let stay = c.truncate.new.self.items in
+    let empty = cleared _ stay _ c.as_mut_slice.ensures.value (c.fill.ensures.after (λ _ e. search rules)) in
+    let long : m ≡ length stay = c.len-kept.ensures.value ∙ ap length empty ∙ length-replicate (length stay) None in
+    let few : m ≤ n = omega (arith, long, ap length c.truncate.ensures.items, length-take n c.args.cells.now.items) in
+    let more : c.try_extend_from_slice-extended.new.self.items ≡ refill (length stay) stay c.fill.new.self ++ take (n - m) (drop m (replicate 256 None)) = grind arith in
+    more ∙ ap (λ (ps : List Place). ps ++ take (n - m) (drop m (replicate 256 None))) (empty ∙ ap (λ (k : ℕ). replicate k None) (sym long)) ∙ filled_up n m few c.requires
