@@ -60,6 +60,8 @@ impl<C: FrameCounter> Meter<C> {
     }
 
     // Accepts a plan. The counter is opened last, when nothing else can be wrong.
+    // Inlined, so that the marks of a new meter are written once and not twice.
+    #[inline]
     pub fn plan(&mut self, plan: Plan) -> Result<(), Refusal>
         ensures answer { told result ≡ plan_answer C.meaning (state_of C.meaning self.old) plan }
         ensures state { state_of C.meaning self.new ≡ plan_leaves C.meaning (state_of C.meaning self.old) plan }
