@@ -1,7 +1,7 @@
--- A fill empties the places that stay, and those that are missing come empty.
-use Rattle.std.proofs.Common.{◌≡◌, ℕ, ◌+◌, ◌-◌, ◌≤◌, List, ◌++◌, None, length, take, drop, replicate, sym, ap, ◌∙◌, rules, arith}
+-- A fill empties the places that there are, and those that are missing come empty.
+use Rattle.std.proofs.Common.{◌≡◌, ℕ, ◌+◌, ◌-◌, ◌<◌, ◌≤◌, List, ◌++◌, None, length, take, drop, replicate, sym, ap, ◌∙◌, rules, arith}
 use Rattle.std.specs.List.{refill}
-use Rattle.std.proofs.lemmas.List.{drop-replicate, length-replicate, length-take, replicate-append-replicate, take-replicate}
+use Rattle.std.proofs.lemmas.List.{drop-replicate, length-replicate, replicate-append-replicate, take-replicate}
 use Rattle.shared.specs.Places.{Place}
 use Rattle.shared.proofs.Steps.{written}
 use Rattle.shared.proofs.places.reset.Goals as goal
@@ -13,19 +13,27 @@ cleared now before after was e =
     written before after (ap length all ∙ length-replicate (length before) None) ∙ all
 
 -- empty places, and more of 256 empty ones up to n
-filled_up : (n m : ℕ) → m ≤ n → n ≤ 256 → replicate {A = Place} m None ++ take (n - m) (drop m (replicate 256 None)) ≡ replicate n None
+filled_up : (n m : ℕ) → m < n → n ≤ 256 → replicate {A = Place} m None ++ take (n - m) (drop m (replicate 256 None)) ≡ replicate n None
 filled_up n m l few =
     let more = ap (take (n - m)) (drop-replicate {X = Place} m 256 None) ∙ take-replicate {X = Place} (n - m) (256 - m) None (omega arith) in
     let all : m + (n - m) ≡ n = omega arith in
     ap (λ (ps : List Place). replicate m None ++ ps) more ∙ replicate-append-replicate m (n - m) None ∙ ap (λ (k : ℕ). replicate k None) all
 
-pub returns : goal.returns
-returns c =
+pub returns-then-places-count : goal.returns-then-places-count
+returns-then-places-count c =
     let n = c.args.places in
-    let m = c.len-kept.result in
-    let stay = c.truncate.new.self.items in
-    let empty = cleared _ stay _ c.as_mut_slice.ensures.value (c.fill.ensures.after (λ _ e. search rules)) in
-    let long : m ≡ length stay = c.len-kept.ensures.value ∙ ap length empty ∙ length-replicate (length stay) None in
-    let few : m ≤ n = omega (arith, long, ap length c.truncate.ensures.items, length-take n c.args.cells.now.items) in
-    let more : c.try_extend_from_slice-extended.new.self.items ≡ refill (length stay) stay c.fill.new.self ++ take (n - m) (drop m (replicate 256 None)) = grind arith in
-    more ∙ ap (λ (ps : List Place). ps ++ take (n - m) (drop m (replicate 256 None))) (empty ∙ ap (λ (k : ℕ). replicate k None) (sym long)) ∙ filled_up n m few c.requires
+    let was = c.args.cells.now.items in
+    let empty = cleared _ was _ c.as_mut_slice.ensures.value (c.fill.ensures.after (λ _ e. search rules)) in
+    let count : c.len-count.result ≡ length was = c.len-count.ensures.value ∙ ap length empty ∙ length-replicate (length was) None in
+    let few : n ≤ length was = omega (arith, count) in
+    c.truncate.ensures.items ∙ ap (take n) empty ∙ take-replicate n (length was) None few
+
+pub returns-else-places-count : goal.returns-else-places-count
+returns-else-places-count c =
+    let n = c.args.places in
+    let m = c.len-count.result in
+    let was = c.args.cells.now.items in
+    let empty = cleared _ was _ c.as_mut_slice.ensures.value (c.fill.ensures.after (λ _ e. search rules)) in
+    let count : m ≡ length was = c.len-count.ensures.value ∙ ap length empty ∙ length-replicate (length was) None in
+    let more : c.try_extend_from_slice-extended.new.self.items ≡ refill (length was) was c.fill.new.self ++ take (n - m) (drop m (replicate 256 None)) = grind arith in
+    more ∙ ap (λ (ps : List Place). ps ++ take (n - m) (drop m (replicate 256 None))) (empty ∙ ap (λ (k : ℕ). replicate k None) (sym count)) ∙ filled_up n m c.if-places-count.false c.requires
