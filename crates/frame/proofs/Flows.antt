@@ -1,9 +1,10 @@
 -- The flows that have a mark: each once.
-use Rattle.std.proofs.Common.{◌≡◌, ℕ, suc, ◌+◌, ◌*◌, ◌<◌, ◌≤◌, Bool, true, false, cond, not, ltb, List, [], ◌∷◌, ◌++◌, length, get_or, take, Option, sym, refl, ap, ◌∙◌, ⊎_elim, one-mul, zero-mul, arith}
+use Rattle.std.proofs.Common.{◌≡◌, ℕ, suc, ◌+◌, ◌*◌, ◌<◌, ◌≤◌, Bool, true, false, cond, not, ◌||◌, ltb, List, [], ◌∷◌, ◌++◌, length, get_or, take, reverse, Option, sym, refl, ap, ◌∙◌, ⊎_elim, one-mul, zero-mul, arith}
 use Rattle.std.specs.Bool.{then_some}
 use Rattle.std.specs.Option.{option_to_list}
 use Rattle.std.specs.List.{AllByRecursion, list_any}
-use Rattle.std.proofs.lemmas.List.{take_more, get_or_default}
+use Rattle.std.proofs.lemmas.List.{reverse-append, take_more, get_or_default}
+use Rattle.std.proofs.lemmas.List.Folds.{list_any-append}
 use Rattle.std.proofs.lemmas.Bool.{cases_Bool}
 use Rattle.std.proofs.lemmas.Bool.Decides.{nat_tests}
 use Rattle.flow.specs.declared.code.Code.{Code}
@@ -145,6 +146,18 @@ flows_sum (m ∷ ms) =
         (λ b. let one : t ≡ 1 = grind (arith, nat_tests) in ap (λ x. x * n) one ∙ one-mul n)
         (λ b. let zero : n ≡ 0 = grind (arith, nat_tests) in let none : t ≡ 0 = grind (arith, nat_tests) in ap (λ x. x * n) none ∙ zero-mul n ∙ sym zero)
         (cases_Bool (ltb 0 n))
+
+-- a search from the back finds what one from the front finds
+pub any_reverse : (p : Mark → Bool) (ms : List Mark) → list_any p (reverse ms) ≡ list_any p ms
+any_reverse p [] = refl
+any_reverse p (m ∷ ms) =
+    ap (list_any p) (reverse-append (m ∷ []) ms) ∙ list_any-append p (reverse ms) (m ∷ []) ∙ ap (λ (b : Bool). b || list_any p (m ∷ [])) (any_reverse p ms) ∙ last (list_any p ms) (p m)
+  where
+    last : (a b : Bool) → (a || (b || false)) ≡ (b || a)
+    last true true = refl
+    last true false = refl
+    last false true = refl
+    last false false = refl
 
 -- whether a code has a mark
 has_mark : (k : Code) (ms : List Mark) → list_any (λ m. same m.code k) ms ≡ ltb 0 (marks_of k ms)

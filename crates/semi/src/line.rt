@@ -151,7 +151,7 @@ fn seat(entries: &mut ArrayVec<Entry, MOST_PLACES>, places: usize, new: Entry) -
 }
 
 // Puts a further entry on the line, behind each one whose group is not above its own.
-// Answers how many different groups between 0 and its own it passes. (`insert` turns the line by a call: see `settle`.)
+// Answers how many different groups between 0 and its own it passes. (`insert` moves by `rotate_left`: see `settle`.)
 fn enter(entries: &mut ArrayVec<Entry, MOST_PLACES>, new: Entry) -> usize
     requires room { length entries.old.items < most_places }
     requires order { Rising entries.old.items }
@@ -164,7 +164,7 @@ fn enter(entries: &mut ArrayVec<Entry, MOST_PLACES>, new: Entry) -> usize
     way.passes
 }
 
-// Puts `new` at a place, and moves the entries from there on up over the last one.
+// Puts `new` at a place. The entries from there on move up by one, over the last.
 fn wedge(line: &mut [Entry], at: usize, new: Entry)
     requires { at < length line.old }
     ensures { (front : List Item) (last : Item) → line.old ≡ front ++ last ∷ [] → line.new ≡ insert front at new }
@@ -189,7 +189,7 @@ fn regroup(line: &mut [Entry], new: Entry) -> usize
 }
 
 // Puts `new` in the place of the first entry, and moves it behind each later one whose group is not above its own.
-// Answers how many different groups between the two it passes. (`rotate_left` is a call of its own, which costs more than a short way.)
+// Answers how many different groups between the two it passes. (One `memmove`: `rotate_left` costs more than a short way.)
 fn settle(line: &mut [Entry], new: Entry) -> usize
     requires some { 0 < length line.old }
     requires order { Rising line.old }

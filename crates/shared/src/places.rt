@@ -25,11 +25,10 @@ pub(crate) fn reset(cells: &mut ArrayVec<Place, MOST_PLACES>, places: usize)
     requires { places ≤ most_places }
     ensures { cells.new.items ≡ replicate places None }
 {
+    cells.truncate(places);
     cells.as_mut_slice().fill(None);
     let count = cells.len();
-    if places <= count {
-        cells.truncate(places);
-    } else {
+    if count < places {
         // From a constant, at once: a push of each stores the length each time.
         let extended = cells.try_extend_from_slice(&[None; MOST_PLACES][count..places]);
         prove!(extended.is_ok());

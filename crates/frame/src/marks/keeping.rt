@@ -63,7 +63,10 @@ impl Marks {
         ensures { flows (take (place + 1) (listed self.now)) ≡ flows (take place (listed self.now)) ++ option_to_list result }
     {
         let code = self.marks.get(place)?.code;
-        let is_first = !self.marks[..place].iter().any(|mark| mark.code == code);
+        let is_first = !self.marks[..place]
+            .iter()
+            .rev()
+            .any(|mark| mark.code == code);
         is_first.then_some(code)
     }
 

@@ -60,7 +60,7 @@ impl<C: FrameCounter> Meter<C> {
 }
 
 impl Window {
-    // Whether the list at a level has more records than this room. A list has no more than there are marks, so few of them need no count.
+    // Whether the list at a level has more records than this room. A list has no more than there are marks, so a table of as many needs no count.
     fn list_exceeds<C: FrameCounter>(&self, counter: &C, level: u64, room: usize) -> bool
         ensures { result ≡ nat_lt room (length (list_in C.meaning (windowed C.meaning counter.now self.now) self.now.layout.plan level)) }
     {
@@ -68,7 +68,7 @@ impl Window {
     }
 
     // Writes the list at a level to the front of the table, as far as that reaches. Answers how many records the list has.
-    // Inlined at both of its calls, since a list over no marks is to cost no call.
+    // Inlined at both of its calls, so that a list over no marks costs no call.
     #[inline(always)]
     fn list_into<C: FrameCounter>(&self, counter: &C, level: u64, table: &mut [Record]) -> usize
         ensures count { result ≡ length (list_in C.meaning (windowed C.meaning counter.now self.now) self.now.layout.plan level) }
