@@ -27,6 +27,12 @@ all_empty n ps e = (ap length e ∙ length-replicate n None, ap tidy e ∙ tidy_
 pub written : (before after : List Place) → length after ≡ length before → refill (length before) before after ≡ after
 written before after e = take_at after (drop (length after) before) (length before) e
 
+-- the places that a fill of all of them leaves
+pub cleared : (now before after : List Place) → now ≡ before → after ≡ replicate (length now) None → refill (length before) before after ≡ replicate (length before) None
+cleared now before after was e =
+    let all = e ∙ ap (λ (ps : List Place). replicate (length ps) None) was in
+    written before after (ap length all ∙ length-replicate (length before) None) ∙ all
+
 -- the weight and the packets of an add that is not refused
 pub admitted_parts : (t w : ℕ) → admitted {A = Unit {0}} t w tt ≡ answered tt → (0 < w) × (w ≤ most_weight) × (t ≡ most_packets → ⊥)
 admitted_parts t w h = grind (arith, nat_tests)

@@ -10,6 +10,7 @@ use flow::limits::MOST_PLACES;
 use flow::tally::Tally;
 
 pub mod calls;
+mod opening;
 
 // A counter whose places share one deduction.
 #[derive(Drop)]

@@ -60,7 +60,7 @@ impl<C: FrameCounter> Meter<C> {
     }
 
     // Accepts a plan. The counter is opened last, when nothing else can be wrong.
-    // Inlined, so that the marks of a new meter are written once and not twice.
+    // Inlined, so that the marks of a meter that is made and planned in one place can be written once.
     #[inline]
     pub fn plan(&mut self, plan: Plan) -> Result<(), Refusal>
         ensures answer { told result ≡ plan_answer C.meaning (state_of C.meaning self.old) plan }

@@ -28,26 +28,6 @@ impl SharedDeduction {
         SharedDeduction::opened(Sizes { places: 1, step: 1 })
     }
 
-    // A counter of these sizes, with its places empty.
-    fn opened(sizes: Sizes) -> SharedDeduction
-        ensures { shared_meaning.model result ≡ shared_opened sizes.places }
-    {
-        SharedDeduction {
-            tally: Tally::new(),
-            deduction: 0,
-            places: places::empty(sizes.places),
-        }
-    }
-
-    // Empties the counter, with these sizes.
-    fn reset(&mut self, sizes: Sizes)
-        ensures { shared_meaning.model self.new ≡ shared_opened sizes.places }
-    {
-        places::reset(&mut self.places, sizes.places);
-        self.tally = Tally::new();
-        self.deduction = 0;
-    }
-
     // The deduction.
     pub fn deduction(&self) -> u64
         ensures { result ≡ (shared_meaning.model self.now).deduction }
@@ -109,9 +89,11 @@ impl FrameCounter for SharedDeduction {
         Ok(())
     }
 
+    // In place: to make the counter anew writes all its cells.
     fn flush(&mut self) {
-        let places = self.places.len();
-        self.reset(Sizes { places, step: STEP });
+        self.places.as_mut_slice().fill(None);
+        self.tally = Tally::new();
+        self.deduction = 0;
     }
 
     fn add(&mut self, code: Code, weight: u32) -> Result<usize, Refusal>

@@ -3,14 +3,8 @@ use Rattle.std.proofs.Common.{◌≡◌, ℕ, ◌+◌, ◌-◌, ◌<◌, ◌≤�
 use Rattle.std.specs.List.{refill}
 use Rattle.std.proofs.lemmas.List.{drop-replicate, length-replicate, length-take, replicate-append-replicate, take-replicate}
 use Rattle.shared.specs.Places.{Place}
-use Rattle.shared.proofs.Steps.{written}
+use Rattle.shared.proofs.Steps.{cleared}
 use Rattle.shared.proofs.places.reset.Goals as goal
-
--- the places that a fill of all of them leaves
-cleared : (now before after : List Place) → now ≡ before → after ≡ replicate (length now) None → refill (length before) before after ≡ replicate (length before) None
-cleared now before after was e =
-    let all = e ∙ ap (λ (ps : List Place). replicate (length ps) None) was in
-    written before after (ap length all ∙ length-replicate (length before) None) ∙ all
 
 -- empty places, and more of 256 empty ones up to n
 filled_up : (n m : ℕ) → m < n → n ≤ 256 → replicate {A = Place} m None ++ take (n - m) (drop m (replicate 256 None)) ≡ replicate n None
